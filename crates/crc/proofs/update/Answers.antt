@@ -1,0 +1,11 @@
+use borrow.Author.Needs.{needs}
+use mathlib.Core.Path.{_≡_, sym, ap, _∙_}
+use Rattle.crc.specs.Crc32.{register}
+use Rattle.crc.proofs.Register.{register-append}
+use Rattle.crc.proofs.update.Needs as need
+
+pub returns : need.returns
+returns c =
+    let bs = c .args .bytes .now in
+    let v = c .bytes-in .ensures ∙ c .loop-rest .inv in
+    record { value = v; parts = λ xs h. v ∙ (ap (λ s. register s bs) h ∙ sym (register-append 0xFFFF_FFFF xs bs)) }

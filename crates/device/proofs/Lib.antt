@@ -1,0 +1,5 @@
+pub mod Faults
+pub mod Whens
+pub mod Meanings
+pub mod CallsLaws
+pub mod GateLaws

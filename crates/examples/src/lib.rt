@@ -1,0 +1,13 @@
+//! Worked examples of the definitions that contracts cite, proved as one list.
+ghost use mathlib.Core.Path.{_≡_};
+ghost use lib.Chars.{codes};
+ghost use Rattle.crc.specs.Crc32.{crc-of};
+ghost use Rattle.examples.specs.Examples.{Examples};
+
+/// The CRC-32 of "123456789", by which implementations are compared. The contract asks for the proof of the whole list as well.
+pub fn check_value() -> u32
+    ensures value { λ r. ⌜ r ≡ crc-of (codes "123456789") ⌝ }
+    ensures examples { λ _. ⌜ Examples ⌝ }
+{
+    0xcbf4_3926
+}
