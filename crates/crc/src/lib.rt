@@ -53,10 +53,9 @@ fn eight_in(state: u32, b: &[u8]) -> u32
         ^ look(0, b[7] as u32)
 }
 
-/// The register after some more bytes of a message that comes in parts: from `START`, through each part, to `finish`.
-pub fn update(state: u32, bytes: &[u8]) -> u32
-    ensures value { λ r. ⌜ r ≡ register state (now (bytes .entry)) ⌝ }
-    ensures parts { λ r. ⌜ ((xs : List ℕ) → After xs state → After (xs ++ now (bytes .entry)) r) ⌝ }
+// Bytes enter the register, eight by eight.
+fn enter(state: u32, bytes: &[u8]) -> u32
+    ensures { λ r. ⌜ r ≡ register state (now (bytes .entry)) ⌝ }
 {
     let mut now = state;
     let mut rest = bytes;
@@ -66,6 +65,14 @@ pub fn update(state: u32, bytes: &[u8]) -> u32
         rest = back;
     }
     bytes_in(now, rest)
+}
+
+/// The register after some more bytes of a message that comes in parts: from `START`, through each part, to `finish`.
+pub fn update(state: u32, bytes: &[u8]) -> u32
+    ensures value { λ r. ⌜ r ≡ register state (now (bytes .entry)) ⌝ }
+    ensures parts { λ r. ⌜ ((xs : List ℕ) → After xs state → After (xs ++ now (bytes .entry)) r) ⌝ }
+{
+    enter(state, bytes)
 }
 
 /// The CRC-32 of a message after whose last part the register is `state`.

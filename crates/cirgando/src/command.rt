@@ -1,0 +1,144 @@
+// The commands of a transcript.
+use crate::words::number;
+use std::fmt;
+use std::str::SplitWhitespace;
+
+/// A command, with the words that it is given.
+#[derive(Clone, Copy)]
+pub(crate) enum Command<'a> {
+    /// A new pile over a disk of so many pages.
+    Pile { pages: u64 },
+    /// Arms the disk at the bottom of the pile.
+    Arm { n: u32, letters: &'a str, t: u64 },
+    /// A page call on the top of the pile.
+    Page(PageCall<'a>),
+}
+
+#[derive(Clone, Copy)]
+pub(crate) enum PageCall<'a> {
+    Read { page: u64, len: u64 },
+    Write { page: u64, bytes: &'a str },
+    Sync,
+    Restart,
+}
+
+/// What is wrong with a line.
+#[derive(Clone, Copy)]
+pub(crate) enum Wrong {
+    NotText,
+    NoCommand,
+    Usage(Form),
+    NotANumber,
+    NotBytes,
+    NoPile,
+}
+
+/// The forms of the commands.
+#[derive(Clone, Copy)]
+pub(crate) enum Form {
+    Pile,
+    Arm,
+    Page,
+}
+
+pub(crate) impl fmt::Display for Form as FormDisplay {
+    fn fmt<W: fmt::Write>(&self, f: &mut fmt::Formatter<W>) -> fmt::Result {
+        f.write_str(match self {
+            Form::Pile => "pile disk PAGES",
+            Form::Arm => "arm N LETTERS T",
+            Form::Page => "page read P LEN, page write P BYTES, page sync or page restart",
+        })
+    }
+}
+
+pub(crate) impl fmt::Display for Wrong as WrongDisplay {
+    fn fmt<W: fmt::Write>(&self, f: &mut fmt::Formatter<W>) -> fmt::Result {
+        match self {
+            Wrong::NotText => f.write_str("the line is not UTF-8 text"),
+            Wrong::NoCommand => f.write_str("there is no such command"),
+            Wrong::Usage(form) => write!(f, "the form is {form}"),
+            Wrong::NotANumber => f.write_str("not a decimal number, or one that does not fit"),
+            Wrong::NotBytes => f.write_str("bytes are 0x and an even number of hex digits"),
+            Wrong::NoPile => f.write_str("there is no pile"),
+        }
+    }
+}
+
+/// The command that a line writes; none on a blank line or a comment.
+pub(crate) fn parse(line: &[u8]) -> Result<Option<Command<'_>>, Wrong> {
+    let Ok(text) = std::str::from_utf8(line) else {
+        return Err(Wrong::NotText);
+    };
+    if text.starts_with('#') {
+        return Ok(None);
+    }
+    let mut words = text.split_whitespace();
+    match words.next() {
+        None => Ok(None),
+        Some("pile") => Ok(Some(pile(&mut words)?)),
+        Some("arm") => Ok(Some(arm(&mut words)?)),
+        Some("page") => Ok(Some(Command::Page(page(&mut words)?))),
+        Some(_) => Err(Wrong::NoCommand),
+    }
+}
+
+// A word that has to be there.
+fn word<'a>(words: &mut SplitWhitespace<'a>, form: Form) -> Result<&'a str, Wrong> {
+    words.next().ok_or(Wrong::Usage(form))
+}
+
+// A number that has to be there.
+fn number_word<'a>(
+    words: &mut SplitWhitespace<'a>,
+    form: Form,
+) -> Result<u64, Wrong> {
+    number(word(words, form)?).ok_or(Wrong::NotANumber)
+}
+
+// No word is left.
+fn end<'a>(words: &mut SplitWhitespace<'a>, form: Form) -> Result<(), Wrong> {
+    match words.next() {
+        Some(_) => Err(Wrong::Usage(form)),
+        None => Ok(()),
+    }
+}
+
+fn pile<'a>(words: &mut SplitWhitespace<'a>) -> Result<Command<'a>, Wrong> {
+    let form = Form::Pile;
+    let "disk" = word(words, form)? else {
+        return Err(Wrong::Usage(form));
+    };
+    let pages = number_word(words, form)?;
+    end(words, form)?;
+    Ok(Command::Pile { pages })
+}
+
+fn arm<'a>(words: &mut SplitWhitespace<'a>) -> Result<Command<'a>, Wrong> {
+    let form = Form::Arm;
+    let Ok(n) = u32::try_from(number_word(words, form)?) else {
+        return Err(Wrong::NotANumber);
+    };
+    let letters = word(words, form)?;
+    let t = number_word(words, form)?;
+    end(words, form)?;
+    Ok(Command::Arm { n, letters, t })
+}
+
+fn page<'a>(words: &mut SplitWhitespace<'a>) -> Result<PageCall<'a>, Wrong> {
+    let form = Form::Page;
+    let call = match word(words, form)? {
+        "read" => PageCall::Read {
+            page: number_word(words, form)?,
+            len: number_word(words, form)?,
+        },
+        "write" => PageCall::Write {
+            page: number_word(words, form)?,
+            bytes: word(words, form)?,
+        },
+        "sync" => PageCall::Sync,
+        "restart" => PageCall::Restart,
+        _ => return Err(Wrong::Usage(form)),
+    };
+    end(words, form)?;
+    Ok(call)
+}
