@@ -7,6 +7,7 @@ pub(crate) enum Answer {
     Done,
     Count(usize),
     Bytes(Vec<u8>),
+    Hash(u32),
     Refused(u8),
 }
 
@@ -18,6 +19,10 @@ pub(crate) impl fmt::Display for Answer as AnswerDisplay {
             Answer::Bytes(bytes) => {
                 write!(f, "ok 0x")?;
                 hex(bytes.as_slice(), f)
+            }
+            Answer::Hash(hash) => {
+                let first = hash >> 24;
+                write!(f, "ok 0x{hash:08x} {first:08b}")
             }
             Answer::Refused(number) => write!(f, "refused {number}"),
         }

@@ -12,6 +12,15 @@ pub(crate) enum Command<'a> {
     Arm { n: u32, letters: &'a str, t: u64 },
     /// A page call on the top of the pile.
     Page(PageCall<'a>),
+    /// The hash of a key.
+    Key { rule: Rule, bytes: &'a str },
+}
+
+/// The key rules.
+#[derive(Clone, Copy)]
+pub(crate) enum Rule {
+    Integers,
+    Text,
 }
 
 #[derive(Clone, Copy)]
@@ -39,15 +48,19 @@ pub(crate) enum Form {
     Pile,
     Arm,
     Page,
+    Key,
 }
 
 pub(crate) impl fmt::Display for Form as FormDisplay {
     fn fmt<W: fmt::Write>(&self, f: &mut fmt::Formatter<W>) -> fmt::Result {
-        f.write_str(match self {
-            Form::Pile => "pile disk PAGES",
-            Form::Arm => "arm N LETTERS T",
-            Form::Page => "page read P LEN, page write P BYTES, page sync or page restart",
-        })
+        f.write_str(
+            match self {
+                Form::Pile => "pile disk PAGES",
+                Form::Arm => "arm N LETTERS T",
+                Form::Key => "key RULE BYTES, RULE being text or integer",
+                Form::Page => "page read P LEN, page write P BYTES, page sync or page restart",
+            },
+        )
     }
 }
 
@@ -78,6 +91,7 @@ pub(crate) fn parse(line: &[u8]) -> Result<Option<Command<'_>>, Wrong> {
         Some("pile") => Ok(Some(pile(&mut words)?)),
         Some("arm") => Ok(Some(arm(&mut words)?)),
         Some("page") => Ok(Some(Command::Page(page(&mut words)?))),
+        Some("key") => Ok(Some(key(&mut words)?)),
         Some(_) => Err(Wrong::NoCommand),
     }
 }
@@ -88,10 +102,7 @@ fn word<'a>(words: &mut SplitWhitespace<'a>, form: Form) -> Result<&'a str, Wron
 }
 
 // A number that has to be there.
-fn number_word<'a>(
-    words: &mut SplitWhitespace<'a>,
-    form: Form,
-) -> Result<u64, Wrong> {
+fn number_word<'a>(words: &mut SplitWhitespace<'a>, form: Form) -> Result<u64, Wrong> {
     number(word(words, form)?).ok_or(Wrong::NotANumber)
 }
 
@@ -122,6 +133,18 @@ fn arm<'a>(words: &mut SplitWhitespace<'a>) -> Result<Command<'a>, Wrong> {
     let t = number_word(words, form)?;
     end(words, form)?;
     Ok(Command::Arm { n, letters, t })
+}
+
+fn key<'a>(words: &mut SplitWhitespace<'a>) -> Result<Command<'a>, Wrong> {
+    let form = Form::Key;
+    let rule = match word(words, form)? {
+        "text" => Rule::Text,
+        "integer" => Rule::Integers,
+        _ => return Err(Wrong::Usage(form)),
+    };
+    let bytes = word(words, form)?;
+    end(words, form)?;
+    Ok(Command::Key { rule, bytes })
 }
 
 fn page<'a>(words: &mut SplitWhitespace<'a>) -> Result<PageCall<'a>, Wrong> {

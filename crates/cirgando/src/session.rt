@@ -3,6 +3,7 @@ use crate::answer::Answer;
 use crate::answer::AnswerDisplay;
 use crate::command::Command;
 use crate::command::PageCall;
+use crate::command::Rule;
 use crate::command::Wrong;
 use crate::command::WrongDisplay;
 use crate::command::parse;
@@ -12,15 +13,24 @@ use device::Device;
 use device::DeviceFault;
 use disk::Disk;
 use disk::DiskDevice;
+use keys::IntegerKeyRule;
+use keys::IntegerKeys;
+use keys::KeyRule;
+use keys::TextKeyRule;
+use keys::TextKeys;
 use std::error::AnyError;
 use std::io::BufRead;
 
 /// The most pages of a disk, and the bytes of its raw pages.
 const MAX_PAGES: u64 = 131_072;
+
 const RAW_SIZE: usize = 256;
 
 /// The longest buffer that a read is lent. No device takes one of this length, or longer.
 const MAX_BUFFER: u64 = 4096;
+
+/// The refusal of a key that its rule does not take.
+const KEY_NOT_VALID: u8 = 3;
 
 /// The most lines that are played: no input has more.
 const MAX_LINES: u64 = u64::MAX;
@@ -59,6 +69,7 @@ fn play_no_pile<R: BufRead + Drop>(
         match parse(script.line()) {
             Ok(None) => {}
             Ok(Some(Command::Pile { pages })) => return Ok(Next::Pile { pages }),
+            Ok(Some(Command::Key { rule, bytes })) => key(rt, rule, bytes)?,
             Ok(Some(_)) => complain(rt, Wrong::NoPile)?,
             Err(wrong) => complain(rt, wrong)?,
         }
@@ -101,6 +112,7 @@ fn play_pile<R: BufRead + Drop>(
             Ok(Some(Command::Pile { pages })) => return Ok(Next::Pile { pages }),
             Ok(Some(Command::Arm { n, letters, t })) => arm(rt, disk, n, letters, t)?,
             Ok(Some(Command::Page(call))) => page(rt, disk, call)?,
+            Ok(Some(Command::Key { rule, bytes })) => key(rt, rule, bytes)?,
             Err(wrong) => complain(rt, wrong)?,
         }
     }
@@ -135,12 +147,7 @@ fn page<D: Device>(rt: &LibcRuntime, device: &mut D, call: PageCall<'_>) -> Resu
     }
 }
 
-fn read<D: Device>(
-    rt: &LibcRuntime,
-    device: &mut D,
-    page: u64,
-    len: u64,
-) -> Result<(), AnyError> {
+fn read<D: Device>(rt: &LibcRuntime, device: &mut D, page: u64, len: u64) -> Result<(), AnyError> {
     let mut buf = vec![in rt.alloc(); 0u8; len.min(MAX_BUFFER) as usize]?;
     let answer = match device.read(page as usize, buf.as_mut_slice()) {
         Ok(()) => Answer::Bytes(buf),
@@ -157,6 +164,28 @@ fn tell(rt: &LibcRuntime, result: Result<(), DeviceFault>) -> Result<(), AnyErro
     };
     rt.println(answer)?;
     Ok(())
+}
+
+// Prints the hash of a key.
+fn key(rt: &LibcRuntime, rule: Rule, word: &str) -> Result<(), AnyError> {
+    let Some(key) = bytes(rt.alloc(), word)? else {
+        return complain(rt, Wrong::NotBytes);
+    };
+    rt.println(
+        match rule {
+            Rule::Integers => hash::<IntegerKeys>(key.as_slice()),
+            Rule::Text => hash::<TextKeys>(key.as_slice()),
+        },
+    )?;
+    Ok(())
+}
+
+fn hash<K: KeyRule>(key: &[u8]) -> Answer {
+    if K::is_valid(key) {
+        Answer::Hash(K::hash(key))
+    } else {
+        Answer::Refused(KEY_NOT_VALID)
+    }
 }
 
 fn complain(rt: &LibcRuntime, wrong: Wrong) -> Result<(), AnyError> {

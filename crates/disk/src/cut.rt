@@ -66,7 +66,13 @@ fn leave_armed(settled: &mut [u8], written: &[u8], i: usize, turn: usize, arming
     requires { ⌜ i * 256 + 256 ≤ length (now settled) ⌝ ∗ ⌜ i * 256 + 256 ≤ length (now written) ⌝ }
     ensures { λ _. ⌜ now (settled .exit) ≡ putRaw (now (settled .entry)) i (chosen (letterOf (lettersOf (now (arming .entry) .used) (now (arming .entry) .letters)) turn) (now (arming .entry) .kept) (raw (now (settled .entry)) i) (raw (now (written .entry)) i)) ⌝ }
 {
-    leave(settled, written, i, arming.letter(turn), arming.kept as usize);
+    leave(
+        settled,
+        written,
+        i,
+        arming.letter(turn),
+        arming.kept as usize,
+    );
 }
 
 // Page `i` in a cut: if it is unsettled it is left by the letter of its turn. Gives the next turn.

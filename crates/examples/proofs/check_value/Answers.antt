@@ -4,4 +4,4 @@ use Rattle.examples.proofs.check_value.Needs as need
 
 pub returns : need.returns
 unfolding byte-in
-returns c = record { value = refl; examples = (refl, refl, refl) }
+returns c = record { value = refl; examples = ((refl, refl, refl), (refl, refl, refl, refl, refl, refl)) }

@@ -15,7 +15,7 @@ value-of ds k = digitValue (getD ds k 0)
 -- the first two digits, and the rest
 first-two : (ds : List ℕ) → 2 ≤ length ds
     → (Hex ds → (value-of ds 0 < 16) × (value-of ds 1 < 16) × Hex (drop 2 ds)) × ((value-of ds 0 < 16) → (value-of ds 1 < 16) → Hex (drop 2 ds) → Hex ds)
-      × (written ds ≡ (16 * value-of ds 0 + value-of ds 1) ∷ written (drop 2 ds))
+    × (written ds ≡ (16 * value-of ds 0 + value-of ds 1) ∷ written (drop 2 ds))
 first-two [] h = absurd (omega arith)
 first-two (a ∷ []) h = absurd (omega arith)
 first-two (a ∷ b ∷ ds) h = (λ x. x, λ x y z. (x, y, z), refl)
@@ -31,8 +31,7 @@ loop-rest-again c =
     let low : getD pair 1 0 ≡ getD rest 1 0 = c .split-at .ensures .places .1 1 0 (omega arith) in
     let b = c .in-Some .ensures tt in
     let is : c .in-Some .b ≡ 16 * value-of rest 0 + value-of rest 1 =
-        b .1 ∙ (ap (λ k. 16 * digitValue k + digitValue (getD pair 1 0)) high ∙ ap (λ k. 16 * value-of rest 0 + digitValue k) low) in
-    (
+    b .1 ∙ (ap (λ k. 16 * digitValue k + digitValue (getD pair 1 0)) high ∙ ap (λ k. 16 * value-of rest 0 + digitValue k) low) in (
       λ h. c .loop-rest .inv .0 (z .1 (subst (λ k. digitValue k < 16) high (b .0 .0)) (subst (λ k. digitValue k < 16) low (b .0 .1)) (subst Hex back h)),
       λ h. subst Hex (sym back) (z .0 (c .loop-rest .inv .1 h) .2),
       ap (λ xs. xs ++ written tail) (c .in-Continue-push .ensures tt .items)

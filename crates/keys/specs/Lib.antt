@@ -1,0 +1,3 @@
+pub mod Rule
+pub mod Integers
+pub mod Text
