@@ -6,14 +6,28 @@ use std::str::SplitWhitespace;
 /// A command, with the words that it is given.
 #[derive(Clone, Copy)]
 pub(crate) enum Command<'a> {
-    /// A new pile over a disk of so many pages.
-    Pile { pages: u64 },
+    /// A new pile.
+    Pile(Pile),
     /// Arms the disk at the bottom of the pile.
     Arm { n: u32, letters: &'a str, t: u64 },
     /// A page call on the top of the pile.
     Page(PageCall<'a>),
     /// The hash of a key.
     Key { rule: Rule, bytes: &'a str },
+}
+
+/// A pile: a disk of so many pages, and the layers on it.
+#[derive(Clone, Copy)]
+pub(crate) struct Pile {
+    pub(crate) pages: u64,
+    pub(crate) layers: Layers,
+}
+
+/// The layers of a pile, from the bottom up.
+#[derive(Clone, Copy)]
+pub(crate) enum Layers {
+    None,
+    Cache,
 }
 
 /// The key rules.
@@ -55,7 +69,7 @@ pub(crate) impl fmt::Display for Form as FormDisplay {
     fn fmt<W: fmt::Write>(&self, f: &mut fmt::Formatter<W>) -> fmt::Result {
         f.write_str(
             match self {
-                Form::Pile => "pile disk PAGES",
+                Form::Pile => "pile disk PAGES or pile disk PAGES cache",
                 Form::Arm => "arm N LETTERS T",
                 Form::Key => "key RULE BYTES, RULE being text or integer",
                 Form::Page => "page read P LEN, page write P BYTES, page sync or page restart",
@@ -88,10 +102,10 @@ pub(crate) fn parse(line: &[u8]) -> Result<Option<Command<'_>>, Wrong> {
     let mut words = text.split_whitespace();
     match words.next() {
         None => Ok(None),
-        Some("pile") => Ok(Some(pile(&mut words)?)),
-        Some("arm") => Ok(Some(arm(&mut words)?)),
-        Some("page") => Ok(Some(Command::Page(page(&mut words)?))),
-        Some("key") => Ok(Some(key(&mut words)?)),
+        Some("pile") => Ok(Some(pile_command(&mut words)?)),
+        Some("arm") => Ok(Some(arm_command(&mut words)?)),
+        Some("page") => Ok(Some(Command::Page(page_command(&mut words)?))),
+        Some("key") => Ok(Some(key_command(&mut words)?)),
         Some(_) => Err(Wrong::NoCommand),
     }
 }
@@ -114,17 +128,22 @@ fn end<'a>(words: &mut SplitWhitespace<'a>, form: Form) -> Result<(), Wrong> {
     }
 }
 
-fn pile<'a>(words: &mut SplitWhitespace<'a>) -> Result<Command<'a>, Wrong> {
+fn pile_command<'a>(words: &mut SplitWhitespace<'a>) -> Result<Command<'a>, Wrong> {
     let form = Form::Pile;
     let "disk" = word(words, form)? else {
         return Err(Wrong::Usage(form));
     };
     let pages = number_word(words, form)?;
+    let layers = match words.next() {
+        None => Layers::None,
+        Some("cache") => Layers::Cache,
+        Some(_) => return Err(Wrong::Usage(form)),
+    };
     end(words, form)?;
-    Ok(Command::Pile { pages })
+    Ok(Command::Pile(Pile { pages, layers }))
 }
 
-fn arm<'a>(words: &mut SplitWhitespace<'a>) -> Result<Command<'a>, Wrong> {
+fn arm_command<'a>(words: &mut SplitWhitespace<'a>) -> Result<Command<'a>, Wrong> {
     let form = Form::Arm;
     let Ok(n) = u32::try_from(number_word(words, form)?) else {
         return Err(Wrong::NotANumber);
@@ -135,7 +154,7 @@ fn arm<'a>(words: &mut SplitWhitespace<'a>) -> Result<Command<'a>, Wrong> {
     Ok(Command::Arm { n, letters, t })
 }
 
-fn key<'a>(words: &mut SplitWhitespace<'a>) -> Result<Command<'a>, Wrong> {
+fn key_command<'a>(words: &mut SplitWhitespace<'a>) -> Result<Command<'a>, Wrong> {
     let form = Form::Key;
     let rule = match word(words, form)? {
         "text" => Rule::Text,
@@ -147,7 +166,7 @@ fn key<'a>(words: &mut SplitWhitespace<'a>) -> Result<Command<'a>, Wrong> {
     Ok(Command::Key { rule, bytes })
 }
 
-fn page<'a>(words: &mut SplitWhitespace<'a>) -> Result<PageCall<'a>, Wrong> {
+fn page_command<'a>(words: &mut SplitWhitespace<'a>) -> Result<PageCall<'a>, Wrong> {
     let form = Form::Page;
     let call = match word(words, form)? {
         "read" => PageCall::Read {

@@ -2,13 +2,17 @@
 use crate::answer::Answer;
 use crate::answer::AnswerDisplay;
 use crate::command::Command;
+use crate::command::Layers;
 use crate::command::PageCall;
+use crate::command::Pile;
 use crate::command::Rule;
 use crate::command::Wrong;
 use crate::command::WrongDisplay;
 use crate::command::parse;
 use crate::script::Script;
 use crate::words::bytes;
+use cache::Cache;
+use cache::CacheDevice;
 use device::Device;
 use device::DeviceFault;
 use disk::Disk;
@@ -18,6 +22,9 @@ use keys::IntegerKeys;
 use keys::KeyRule;
 use keys::TextKeyRule;
 use keys::TextKeys;
+use pile::Armed;
+use pile::CacheArmed;
+use pile::DiskArmed;
 use std::error::AnyError;
 use std::io::BufRead;
 
@@ -35,11 +42,11 @@ const KEY_NOT_VALID: u8 = 3;
 /// The most lines that are played: no input has more.
 const MAX_LINES: u64 = u64::MAX;
 
-/// What comes after the commands that were played.
+/// What comes after the commands that were played on a pile.
 #[derive(Drop)]
 enum Next {
     End,
-    Pile { pages: u64 },
+    Pile(Pile),
 }
 
 /// Plays a whole transcript.
@@ -51,7 +58,7 @@ pub(crate) fn play<R: BufRead + Drop>(
     for _ in 0..MAX_LINES {
         match next {
             Next::End => break,
-            Next::Pile { pages } => next = play_disk(rt, script, pages)?,
+            Next::Pile(pile) => next = play_new_pile(rt, script, pile)?,
         }
     }
     Ok(())
@@ -68,7 +75,7 @@ fn play_no_pile<R: BufRead + Drop>(
         }
         match parse(script.line()) {
             Ok(None) => {}
-            Ok(Some(Command::Pile { pages })) => return Ok(Next::Pile { pages }),
+            Ok(Some(Command::Pile(pile))) => return Ok(Next::Pile(pile)),
             Ok(Some(Command::Key { rule, bytes })) => key(rt, rule, bytes)?,
             Ok(Some(_)) => complain(rt, Wrong::NoPile)?,
             Err(wrong) => complain(rt, wrong)?,
@@ -77,13 +84,13 @@ fn play_no_pile<R: BufRead + Drop>(
     Ok(Next::End)
 }
 
-// Plays the commands on a new disk.
-fn play_disk<R: BufRead + Drop>(
+// Makes a pile over zeroed images, and plays the commands on it.
+fn play_new_pile<R: BufRead + Drop>(
     rt: &LibcRuntime,
     script: &mut Script<R>,
-    pages: u64,
+    pile: Pile,
 ) -> Result<Next, AnyError> {
-    let count = pages.min(MAX_PAGES) as usize;
+    let count = pile.pages.min(MAX_PAGES) as usize;
     let heap = rt.alloc();
     let mut settled = vec![in heap; 0u8; count * RAW_SIZE]?;
     let mut written = vec![in heap; 0u8; count * RAW_SIZE]?;
@@ -93,25 +100,28 @@ fn play_disk<R: BufRead + Drop>(
         written.as_mut_slice(),
         marks.as_mut_slice(),
     );
-    rt.println(Answer::Count(disk.page_count()))?;
-    play_pile(rt, script, &mut disk)
+    match pile.layers {
+        Layers::None => play_pile(rt, script, &mut disk),
+        Layers::Cache => play_pile(rt, script, &mut Cache::new(disk)),
+    }
 }
 
 // Plays the commands on a pile.
-fn play_pile<R: BufRead + Drop>(
+fn play_pile<R: BufRead + Drop, D: Armed>(
     rt: &LibcRuntime,
     script: &mut Script<R>,
-    disk: &mut Disk<'_>,
+    device: &mut D,
 ) -> Result<Next, AnyError> {
+    rt.println(Answer::Count(device.page_count()))?;
     for _ in 0..MAX_LINES {
         if !script.advance()? {
             break;
         }
         match parse(script.line()) {
             Ok(None) => {}
-            Ok(Some(Command::Pile { pages })) => return Ok(Next::Pile { pages }),
-            Ok(Some(Command::Arm { n, letters, t })) => arm(rt, disk, n, letters, t)?,
-            Ok(Some(Command::Page(call))) => page(rt, disk, call)?,
+            Ok(Some(Command::Pile(pile))) => return Ok(Next::Pile(pile)),
+            Ok(Some(Command::Arm { n, letters, t })) => arm(rt, device, n, letters, t)?,
+            Ok(Some(Command::Page(call))) => page(rt, device, call)?,
             Ok(Some(Command::Key { rule, bytes })) => key(rt, rule, bytes)?,
             Err(wrong) => complain(rt, wrong)?,
         }
@@ -119,14 +129,14 @@ fn play_pile<R: BufRead + Drop>(
     Ok(Next::End)
 }
 
-fn arm(
+fn arm<D: Armed>(
     rt: &LibcRuntime,
-    disk: &mut Disk<'_>,
+    device: &mut D,
     n: u32,
     letters: &str,
     t: u64,
 ) -> Result<(), AnyError> {
-    let answer = match disk.arm(n, letters.as_bytes(), t as usize) {
+    let answer = match device.arm_disk(n, letters.as_bytes(), t as usize) {
         Ok(()) => Answer::Done,
         Err(fault) => Answer::Refused(fault.number()),
     };

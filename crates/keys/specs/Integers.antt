@@ -1,9 +1,9 @@
 -- Integer keys: exactly 8 bytes, compared and hashed as they are.
-use Rattle.crc.specs.Crc32.{crc-of}
-use Rattle.std.specs.shelf.Text.{sameBytes}
-use Rattle.keys.specs.Rule.{Rule}
 use lib.Dec.{eqb}
 use lib.ListN.{length}
+use Rattle.std.specs.shelf.Text.{sameBytes}
+use Rattle.crc.specs.Crc32.{crc-of}
+use Rattle.keys.specs.Rule.{Rule}
 
 -- the integer rule; `sameBytes` is whether two rows have the same bytes in the same order
 abbrev pub integers : Rule

@@ -2,11 +2,11 @@
 use mathlib.Core.Bool.{Bool, true, cond, _&&_}
 use mathlib.Core.List.{List, [], _∷_, map}
 use Prim.Native.Nat.{ℕ, _+_}
-use Rattle.crc.specs.Crc32.{crc-of}
-use Rattle.std.specs.shelf.Text.{sameBytes}
-use Rattle.keys.specs.Rule.{Rule}
 use lib.Dec.{leb, ltb}
 use lib.ListN.{length}
+use Rattle.std.specs.shelf.Text.{sameBytes}
+use Rattle.crc.specs.Crc32.{crc-of}
+use Rattle.keys.specs.Rule.{Rule}
 
 -- a byte that a text key may hold: a printed character of ASCII, the space left out
 abbrev pub graphic : ℕ → Bool

@@ -1,8 +1,8 @@
 use mathlib.Core.List.{map}
 use mathlib.Core.Path.{_≡_, sym, ap, _∙_}
 use Prim.Native.Nat.{_-_}
-use Rattle.crc.specs.Crc32.{register}
 use Rattle.std.proofs.shelf.Lists.{at-drop-more, at-drop-all}
+use Rattle.crc.specs.Crc32.{register}
 use Rattle.keys.specs.Text.{lowered}
 use Rattle.keys.proofs.TextKeyRule.hash.Needs as need
 

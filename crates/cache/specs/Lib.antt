@@ -1,0 +1,4 @@
+pub mod Slots
+pub mod Order
+pub mod Keeping
+pub mod Over

@@ -1,0 +1,17 @@
+use mathlib.Core.Path.{_≡_, refl, sym, subst}
+use Rattle.device.specs.Promises.{Same}
+use Rattle.cache.proofs.Layer.{same-agrees, under-same}
+use Rattle.pile.proofs.CacheArmed.arm_disk.Needs as need
+
+pub returns : need.returns
+returns g c =
+    let d = c .args .self .now in
+    let v = c .below-mut .ensures .value in
+    let m = g .D·Device .meaning (d .below) in
+    let n = g .D·Device .meaning (c .arm-disk .last .self) in
+    let s : Same m n = subst (λ x. Same (g .D·Device .meaning x) n) v (c .arm-disk .ensures .same) in
+    record {
+      answer = c .arm-disk .ensures .answer;
+      agrees = λ h. (c .arm-disk .ensures .agrees (subst (g .D·Device .agrees) (sym v) (h .0)), same-agrees (d .memory) (d .memory) m n (h .1) refl s);
+      same = under-same (d .memory .up) (d .memory .up) m n refl s;
+    }

@@ -1,0 +1,15 @@
+pub mod Prefixes
+pub mod Loading
+pub mod Sets
+pub mod Partition
+pub mod Growth
+pub mod Listing
+pub mod Mapping
+pub mod Changes
+pub mod Visits
+pub mod Directory
+pub mod Imaging
+pub mod Recovering
+pub mod Entries
+pub mod Updating
+pub mod Stands
