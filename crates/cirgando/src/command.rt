@@ -28,6 +28,10 @@ pub(crate) struct Pile {
 pub(crate) enum Layers {
     None,
     Cache,
+    Journal,
+    JournalCache,
+    CacheJournal,
+    CacheJournalCache,
 }
 
 /// The key rules.
@@ -43,6 +47,7 @@ pub(crate) enum PageCall<'a> {
     Write { page: u64, bytes: &'a str },
     Sync,
     Restart,
+    Discard,
 }
 
 /// What is wrong with a line.
@@ -54,6 +59,7 @@ pub(crate) enum Wrong {
     NotANumber,
     NotBytes,
     NoPile,
+    NoGroup,
 }
 
 /// The forms of the commands.
@@ -69,10 +75,12 @@ pub(crate) impl fmt::Display for Form as FormDisplay {
     fn fmt<W: fmt::Write>(&self, f: &mut fmt::Formatter<W>) -> fmt::Result {
         f.write_str(
             match self {
-                Form::Pile => "pile disk PAGES or pile disk PAGES cache",
+                Form::Pile =>
+                    "pile disk PAGES LAYER.., with no layer, cache, journal, journal cache, cache journal or cache journal cache",
                 Form::Arm => "arm N LETTERS T",
                 Form::Key => "key RULE BYTES, RULE being text or integer",
-                Form::Page => "page read P LEN, page write P BYTES, page sync or page restart",
+                Form::Page =>
+                    "page read P LEN, page write P BYTES, page sync, page restart or page discard",
             },
         )
     }
@@ -87,6 +95,7 @@ pub(crate) impl fmt::Display for Wrong as WrongDisplay {
             Wrong::NotANumber => f.write_str("not a decimal number, or one that does not fit"),
             Wrong::NotBytes => f.write_str("bytes are 0x and an even number of hex digits"),
             Wrong::NoPile => f.write_str("there is no pile"),
+            Wrong::NoGroup => f.write_str("the pile is no group device"),
         }
     }
 }
@@ -134,13 +143,21 @@ fn pile_command<'a>(words: &mut SplitWhitespace<'a>) -> Result<Command<'a>, Wron
         return Err(Wrong::Usage(form));
     };
     let pages = number_word(words, form)?;
-    let layers = match words.next() {
-        None => Layers::None,
-        Some("cache") => Layers::Cache,
-        Some(_) => return Err(Wrong::Usage(form)),
-    };
-    end(words, form)?;
+    let layers = layer_words(words)?;
     Ok(Command::Pile(Pile { pages, layers }))
+}
+
+// The layers that the rest of a line names.
+fn layer_words(words: &mut SplitWhitespace<'_>) -> Result<Layers, Wrong> {
+    match (words.next(), words.next(), words.next(), words.next()) {
+        (None, _, _, _) => Ok(Layers::None),
+        (Some("cache"), None, _, _) => Ok(Layers::Cache),
+        (Some("journal"), None, _, _) => Ok(Layers::Journal),
+        (Some("journal"), Some("cache"), None, _) => Ok(Layers::JournalCache),
+        (Some("cache"), Some("journal"), None, _) => Ok(Layers::CacheJournal),
+        (Some("cache"), Some("journal"), Some("cache"), None) => Ok(Layers::CacheJournalCache),
+        _ => Err(Wrong::Usage(Form::Pile)),
+    }
 }
 
 fn arm_command<'a>(words: &mut SplitWhitespace<'a>) -> Result<Command<'a>, Wrong> {
@@ -179,6 +196,7 @@ fn page_command<'a>(words: &mut SplitWhitespace<'a>) -> Result<PageCall<'a>, Wro
         },
         "sync" => PageCall::Sync,
         "restart" => PageCall::Restart,
+        "discard" => PageCall::Discard,
         _ => return Err(Wrong::Usage(form)),
     };
     end(words, form)?;

@@ -13,10 +13,15 @@ use crate::script::Script;
 use crate::words::bytes;
 use cache::Cache;
 use cache::CacheDevice;
+use cache::CacheGroup;
 use device::Device;
 use device::DeviceFault;
+use device::GroupDevice;
 use disk::Disk;
 use disk::DiskDevice;
+use journal::Journal;
+use journal::JournalDevice;
+use journal::JournalGroup;
 use keys::IntegerKeyRule;
 use keys::IntegerKeys;
 use keys::KeyRule;
@@ -25,6 +30,7 @@ use keys::TextKeys;
 use pile::Armed;
 use pile::CacheArmed;
 use pile::DiskArmed;
+use pile::JournalArmed;
 use std::error::AnyError;
 use std::io::BufRead;
 
@@ -41,6 +47,30 @@ const KEY_NOT_VALID: u8 = 3;
 
 /// The most lines that are played: no input has more.
 const MAX_LINES: u64 = u64::MAX;
+
+/// Which calls a pile has.
+trait PileKind<D> {
+    /// A discard; none where the pile is no group device.
+    fn discard(device: &mut D) -> Option<Result<(), DeviceFault>>;
+}
+
+/// The kind of a pile that is no group device.
+struct Single;
+
+impl<D> PileKind<D> for Single as SinglePile {
+    fn discard(_device: &mut D) -> Option<Result<(), DeviceFault>> {
+        None
+    }
+}
+
+/// The kind of a pile that is a group device.
+struct Group;
+
+impl<D: GroupDevice> PileKind<D> for Group as GroupPile {
+    fn discard(device: &mut D) -> Option<Result<(), DeviceFault>> {
+        Some(device.discard())
+    }
+}
 
 /// What comes after the commands that were played on a pile.
 #[derive(Drop)]
@@ -95,19 +125,60 @@ fn play_new_pile<R: BufRead + Drop>(
     let mut settled = vec![in heap; 0u8; count * RAW_SIZE]?;
     let mut written = vec![in heap; 0u8; count * RAW_SIZE]?;
     let mut marks = vec![in heap; 0u8; count]?;
-    let mut disk = Disk::new(
+    play_layers(
+        rt,
+        script,
         settled.as_mut_slice(),
         written.as_mut_slice(),
         marks.as_mut_slice(),
-    );
-    match pile.layers {
-        Layers::None => play_pile(rt, script, &mut disk),
-        Layers::Cache => play_pile(rt, script, &mut Cache::new(disk)),
+        pile.layers,
+    )
+}
+
+// Makes a disk over the images and puts the layers on it, and plays the commands on the pile.
+fn play_layers<R: BufRead + Drop>(
+    rt: &LibcRuntime,
+    script: &mut Script<R>,
+    settled: &mut [u8],
+    written: &mut [u8],
+    marks: &mut [u8],
+    layers: Layers,
+) -> Result<Next, AnyError> {
+    let disk = Disk::new(settled, written, marks);
+    match layers {
+        Layers::None => play_single(rt, script, disk),
+        Layers::Cache => play_single(rt, script, Cache::new(disk)),
+        Layers::Journal => play_group(rt, script, Journal::new(disk)),
+        Layers::JournalCache => play_group(rt, script, Cache::new(Journal::new(disk))),
+        Layers::CacheJournal => play_group(rt, script, Journal::new(Cache::new(disk))),
+        Layers::CacheJournalCache => {
+            play_group(rt, script, Cache::new(Journal::new(Cache::new(disk))))
+        }
     }
 }
 
+// Plays the commands on a pile that is no group device.
+fn play_single<R: BufRead + Drop, D: Armed + Drop>(
+    rt: &LibcRuntime,
+    script: &mut Script<R>,
+    device: D,
+) -> Result<Next, AnyError> {
+    let mut device = device;
+    play_pile::<R, D, Single>(rt, script, &mut device)
+}
+
+// Plays the commands on a pile that is a group device.
+fn play_group<R: BufRead + Drop, G: Armed + GroupDevice + Drop>(
+    rt: &LibcRuntime,
+    script: &mut Script<R>,
+    device: G,
+) -> Result<Next, AnyError> {
+    let mut device = device;
+    play_pile::<R, G, Group>(rt, script, &mut device)
+}
+
 // Plays the commands on a pile.
-fn play_pile<R: BufRead + Drop, D: Armed>(
+fn play_pile<R: BufRead + Drop, D: Armed, K: PileKind<D>>(
     rt: &LibcRuntime,
     script: &mut Script<R>,
     device: &mut D,
@@ -121,7 +192,7 @@ fn play_pile<R: BufRead + Drop, D: Armed>(
             Ok(None) => {}
             Ok(Some(Command::Pile(pile))) => return Ok(Next::Pile(pile)),
             Ok(Some(Command::Arm { n, letters, t })) => arm(rt, device, n, letters, t)?,
-            Ok(Some(Command::Page(call))) => page(rt, device, call)?,
+            Ok(Some(Command::Page(call))) => page::<D, K>(rt, device, call)?,
             Ok(Some(Command::Key { rule, bytes })) => key(rt, rule, bytes)?,
             Err(wrong) => complain(rt, wrong)?,
         }
@@ -145,7 +216,11 @@ fn arm<D: Armed>(
 }
 
 // Makes a page call, and prints its answer.
-fn page<D: Device>(rt: &LibcRuntime, device: &mut D, call: PageCall<'_>) -> Result<(), AnyError> {
+fn page<D: Device, K: PileKind<D>>(
+    rt: &LibcRuntime,
+    device: &mut D,
+    call: PageCall<'_>,
+) -> Result<(), AnyError> {
     match call {
         PageCall::Read { page, len } => read(rt, device, page, len),
         PageCall::Write { page, bytes: word } => match bytes(rt.alloc(), word)? {
@@ -154,6 +229,10 @@ fn page<D: Device>(rt: &LibcRuntime, device: &mut D, call: PageCall<'_>) -> Resu
         },
         PageCall::Sync => tell(rt, device.sync()),
         PageCall::Restart => tell(rt, device.restart()),
+        PageCall::Discard => match K::discard(device) {
+            Some(result) => tell(rt, result),
+            None => complain(rt, Wrong::NoGroup),
+        },
     }
 }
 

@@ -10,6 +10,8 @@ use device::Device;
 use disk::ArmFault;
 use disk::Disk;
 use disk::DiskDevice;
+use journal::Journal;
+use journal::JournalDevice;
 
 /// A pile with a disk at its bottom.
 pub trait Armed: Device {
@@ -27,6 +29,12 @@ pub impl<'a> Armed for Disk<'a> as DiskArmed {
 }
 
 pub impl<D: Armed> Armed for Cache<D> as CacheArmed {
+    fn arm_disk(&mut self, n: u32, letters: &[u8], t: usize) -> Result<(), ArmFault> {
+        self.below_mut().arm_disk(n, letters, t)
+    }
+}
+
+pub impl<D: Armed> Armed for Journal<D> as JournalArmed {
     fn arm_disk(&mut self, n: u32, letters: &[u8], t: usize) -> Result<(), ArmFault> {
         self.below_mut().arm_disk(n, letters, t)
     }

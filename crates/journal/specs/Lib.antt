@@ -1,0 +1,11 @@
+pub mod Waiting
+pub mod Header
+pub mod Standing
+pub mod Crash
+pub mod Sending
+pub mod Over
+pub mod Order
+pub mod Sound
+pub mod Writing
+pub mod Steps
+pub mod Recovery

@@ -1,0 +1,18 @@
+use mathlib.Core.Path.{_≡_, sym, subst}
+use Rattle.device.specs.Promises.{Same}
+use Rattle.journal.specs.Waiting.{waiting}
+use Rattle.pile.proofs.Journals.{journal-agrees, journal-same}
+use Rattle.pile.proofs.JournalArmed.arm_disk.Needs as need
+
+pub returns : need.returns
+returns g c =
+    let d = c .args .self .now in
+    let v = c .below-mut .ensures .value in
+    let m = g .D·Device .meaning (d .below) in
+    let n = g .D·Device .meaning (c .arm-disk .last .self) in
+    let s : Same m n = subst (λ x. Same (g .D·Device .meaning x) n) v (c .arm-disk .ensures .same) in
+    record {
+      answer = c .arm-disk .ensures .answer;
+      agrees = λ h. (c .arm-disk .ensures .agrees (subst (g .D·Device .agrees) (sym v) (h .0)), journal-agrees m n s (d .up) (waiting (d .pending)) (h .1));
+      same = journal-same m n s (d .up) (waiting (d .pending));
+    }
