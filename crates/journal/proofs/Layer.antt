@@ -7,12 +7,12 @@ use Prim.Native.Nat.{ℕ, _+_, _-_, _<_}
 use native.Mathlib.Omega.{arith}
 use lib.Dec.{eqb, ltb}
 use lib.ListN.{length}
-use Rattle.std.proofs.shelf.Tests.{both-ways, cases-bool, eq-eqb, lt-ltb}
+use Rattle.std.proofs.shelf.Tests.{cases-bool, eq-eqb, lt-ltb}
 use Rattle.std.specs.Orderings.{When}
 use Rattle.std.specs.declared.result.Result.the-variants.{Ok, Err}
 use Rattle.device.specs.declared.DeviceFault.{DeviceFault}
 use Rattle.device.specs.declared.DeviceFault.the-variants.{PowerLost, TooManyWaiting}
-use Rattle.device.specs.Meaning.{State, Meaning, Sound, SoundGroup}
+use Rattle.device.specs.Meaning.{State, has, Meaning, Sound, SoundGroup}
 use Rattle.device.specs.Numbers.{number}
 use Rattle.device.specs.Calls.{Answer, Call, reads, writes, syncs, restarts, discards, Step, GroupStep, always, lost, none, DeviceCalls}
 use Rattle.device.specs.Clauses.{Does}
@@ -24,7 +24,7 @@ use Rattle.device.proofs.Whens.{when-true, when-false, either-way}
 use Rattle.journal.specs.declared.journal.Journal.{Journal}
 use Rattle.journal.specs.declared.entries.Entry.{Entry}
 use Rattle.journal.specs.declared.entries.Pending.{Pending}
-use Rattle.journal.specs.Waiting.{waiting, Held, NotHeld, PutDone, PutFull, Heard, Revived}
+use Rattle.journal.specs.Waiting.{waiting, pages, Held, NotHeld, PutDone, PutFull, Heard, Revived}
 use Rattle.journal.specs.Header.{targets}
 use Rattle.journal.specs.Standing.{above, home, journal, journalGroup}
 use Rattle.journal.specs.Sending.{Makes, step1, step2, step3, step4}
@@ -110,7 +110,7 @@ module _ {X : Type 0} (agrees : X → Type 0) (meaning : X → Meaning) (sound :
     refused-read = (
       doing (reads p buf buf) j j (Err e) (λ h. (h .0, refl, record { agrees = h .1; means = (gate-read count p buf (journaled meaning j) is e gate, leaves-self (journaled meaning j) (grouping meaning j) e) })),
       λ h. refused-calls,
-      λ h. (λ _. refl, λ _. refl),
+      λ h. (either-way (has p (pages (waiting (j .pending)))) _ _ refl (inl refl), λ _. refl),
     )
 
     pub refused-write : Told (writes p buf) j (Err e) j
@@ -160,7 +160,7 @@ module _ {X : Type 0} (agrees : X → Type 0) (meaning : X → Meaning) (sound :
       held-read buf′ x = (
         doing (reads p buf buf′) j j (Ok tt) (λ h. (h .0, refl, went-held (reader (meaning (j .below))) (j .up) (waiting (j .pending)) (meaning (j .below)) (sound (j .below) (h .0)) (h .1) p buf buf′ t (record { within = w; size = len }) (x .shows))),
         unmoved (reads p buf buf′) j j (Ok tt) refl refl,
-        λ h. (λ _. refl, λ _. refl),
+        λ h. (when-true (has p (pages (waiting (j .pending)))) _ _ (x .waits) refl, λ _. refl),
       )
 
       pub put-write : PutDone (waiting (j .pending)) p buf (waiting v) → Told (writes p buf) j (Ok tt) with-v
@@ -211,7 +211,7 @@ module _ {X : Type 0} (agrees : X → Type 0) (meaning : X → Meaning) (sound :
             (subst (λ (s : Answer). Heard (j .up) (j .pending) s (j′ .up) (j′ .pending)) (sym same) heard) (y .means),
       )),
       λ h. when-true (j .up) _ _ t (one (reads (65 + p) buf buf′) a (j′ .below) (h .1 .below t) (does (h .0) .means)),
-      λ h. (λ q. absurd (both-ways _ (away .absent) q), λ z. absurd (let v = w in omega arith)),
+      λ h. (when-false (has p (pages (waiting (j .pending)))) _ _ (away .absent) (inr (does (h .0) .means)), λ z. absurd (let v = w in omega arith)),
     )
       where
         m : Meaning

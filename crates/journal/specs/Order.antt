@@ -47,9 +47,13 @@ Restarting {X} meaning d r e =
 abbrev pub Syncing : {X : Type 0} → (X → Meaning) → List Entry → X → Answer → X → Type 0
 Syncing meaning es d r e = When (ltb 0 (length es)) (Makes meaning (step1 es ++ (step2 es ++ (step3 es ++ step4))) r d e) (e ≡ d)
 
+-- what goes below in a read of page p: nothing, or the one read of its home page; nothing where it waits
+abbrev pub Reading : {X : Type 0} → (X → Meaning) → List Entry → ℕ → List ℕ → List ℕ → X → Answer → X → Type 0
+Reading meaning es p buf buf′ d r e = When (has p (pages es)) (e ≡ d) ((e ≡ d) ⊎ Step (reads (65 + p) buf buf′) (meaning d) r (meaning e))
+
 -- what goes below in a call k of the journal, answered r
 abbrev pub Sends : {X : Type 0} → (X → Meaning) → Call → Journal X → Answer → Journal X → Type 0
-Sends meaning (reads p buf buf′) j r j′ = has p (pages (waiting (j .pending))) ≡ true → j′ .below ≡ j .below
+Sends meaning (reads p buf buf′) j r j′ = Reading meaning (waiting (j .pending)) p buf buf′ (j .below) r (j′ .below)
 Sends meaning (writes p buf) j r j′ = j′ .below ≡ j .below
 Sends meaning syncs j r j′ = When (j .up) (Syncing meaning (waiting (j .pending)) (j .below) r (j′ .below)) (j′ .below ≡ j .below)
 Sends meaning restarts j r j′ = Restarting meaning (j .below) r (j′ .below)

@@ -122,6 +122,7 @@ impl<D: Device> Journal<D> {
         pages_above(self.below.page_count())
     }
 
+    // A page that waits is read from memory, any other from its home page.
     fn read_page(&mut self, page: usize, buf: &mut [u8]) -> Result<(), DeviceFault>
         ensures does { λ r. ⌜ GroupDoing (D·Device .agrees) (D·Device .meaning) (reads page (now (buf .entry)) (now (buf .exit))) (now (self .entry)) r (now (self .exit)) ⌝ }
         ensures calls { λ r. ⌜ Calling (D·Device .agrees) (D·Device .meaning) (reads page (now (buf .entry)) (now (buf .exit))) (now (self .entry)) r (now (self .exit)) ⌝ }
@@ -135,6 +136,7 @@ impl<D: Device> Journal<D> {
         self.hear(r)
     }
 
+    // A written page waits in memory.
     fn write_page(&mut self, page: usize, buf: &[u8]) -> Result<(), DeviceFault>
         ensures does { λ r. ⌜ GroupDoing (D·Device .agrees) (D·Device .meaning) (writes page (now (buf .entry))) (now (self .entry)) r (now (self .exit)) ⌝ }
         ensures calls { λ r. ⌜ Calling (D·Device .agrees) (D·Device .meaning) (writes page (now (buf .entry))) (now (self .entry)) r (now (self .exit)) ⌝ }
@@ -147,6 +149,7 @@ impl<D: Device> Journal<D> {
         Err(DeviceFault::TooManyWaiting)
     }
 
+    // The four steps for what waits; nothing where nothing does.
     fn sync_pending(&mut self) -> Result<(), DeviceFault>
         ensures does { λ r. ⌜ GroupDoing (D·Device .agrees) (D·Device .meaning) syncs (now (self .entry)) r (now (self .exit)) ⌝ }
         ensures calls { λ r. ⌜ Calling (D·Device .agrees) (D·Device .meaning) syncs (now (self .entry)) r (now (self .exit)) ⌝ }
@@ -163,6 +166,7 @@ impl<D: Device> Journal<D> {
         self.hear(r)
     }
 
+    // The device below is restarted, and a group that stands there is laid over the home pages.
     fn restart_below(&mut self) -> Result<(), DeviceFault>
         ensures does { λ r. ⌜ GroupDoing (D·Device .agrees) (D·Device .meaning) restarts (now (self .entry)) r (now (self .exit)) ⌝ }
         ensures calls { λ r. ⌜ Calling (D·Device .agrees) (D·Device .meaning) restarts (now (self .entry)) r (now (self .exit)) ⌝ }
@@ -172,6 +176,7 @@ impl<D: Device> Journal<D> {
         self.revive(r)
     }
 
+    // What waits is dropped.
     fn discard_pending(&mut self) -> Result<(), DeviceFault>
         ensures does { λ r. ⌜ GroupDoing (D·Device .agrees) (D·Device .meaning) discards (now (self .entry)) r (now (self .exit)) ⌝ }
         ensures calls { λ r. ⌜ Calling (D·Device .agrees) (D·Device .meaning) discards (now (self .entry)) r (now (self .exit)) ⌝ }

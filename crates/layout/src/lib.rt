@@ -8,8 +8,8 @@ ghost use Rattle.std.specs.Orderings.{When};
 ghost use Rattle.layout.specs.Envelope.{envelope, Enveloped, Extended};
 use device::PAGE_SIZE;
 
-/// The most bytes that a body has.
-pub const BODY_SIZE: usize = 249;
+// The most bytes that a body has.
+const BODY_SIZE: usize = 249;
 
 // Whether all bytes are 0.
 fn all_zero(bytes: &[u8]) -> bool

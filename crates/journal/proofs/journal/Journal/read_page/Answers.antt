@@ -14,7 +14,7 @@ pub returns-in-Break-gate : need.returns-in-Break-gate
 returns-in-Break-gate g c =
     let p = err-from-errBy (c .from-residual .result) (c .from-residual .ensures .1) in
     let x = refused-read (g .D·Device .agrees) (g .D·Device .meaning) (g .D·Device .sound) (c .args .self .now) (c .count .result) (c .args .page) (c .args .buf .now) (c .count .ensures) (c .in-Break-gate .field-0 .0) (c .in-Break-gate .ensures tt) in
-    record { does = rw (p .1, p .2) (x .0); calls = rw (p .1, p .2) (x .1); sends = x .2 }
+    record { does = rw (p .1, p .2) (x .0); calls = rw (p .1, p .2) (x .1); sends = rw (p .1, p .2) (x .2) }
 
 pub returns-then-copy-held : need.returns-then-copy-held
 returns-then-copy-held g c =
