@@ -22,7 +22,7 @@ pub struct Targets {
 }
 
 impl Targets {
-    pub fn none() -> Targets
+    pub(crate) fn none() -> Targets
         ensures { λ r. ⌜ take (r .len) (r .pages) ≡ [] ⌝ }
     {
         Targets {
@@ -31,7 +31,7 @@ impl Targets {
         }
     }
 
-    pub fn as_slice(&self) -> &[u16]
+    pub(crate) fn as_slice(&self) -> &[u16]
         ensures items { λ r. ⌜ now r ≡ take (now (self .entry) .len) (now (self .entry) .pages) ⌝ }
         ensures size { λ r. ⌜ length (now r) ≡ now (self .entry) .len ⌝ }
     {
@@ -84,7 +84,7 @@ fn targets_in(body: &[u8]) -> Targets
 }
 
 // The targets of a header by layout that names distinct pages below the count, and none of any other page.
-pub fn parse_header(page: &[u8; 252], count: usize) -> Targets
+pub(crate) fn parse_header(page: &[u8; 252], count: usize) -> Targets
     ensures { λ r. ⌜ take (r .len) (r .pages) ≡ targets count (bytes (now (page .entry))) ⌝ }
 {
     let Some(body) = body_of(page) else {
@@ -101,7 +101,7 @@ pub fn parse_header(page: &[u8; 252], count: usize) -> Targets
 }
 
 // The header that names the pages of the entries.
-pub fn header_of(entries: &[Entry]) -> [u8; 252]
+pub(crate) fn header_of(entries: &[Entry]) -> [u8; 252]
     requires { ⌜ length (now entries) ≤ 64 ⌝ }
     ensures { λ r. ⌜ r ≡ header (pages (now (entries .entry))) ⌝ }
 {

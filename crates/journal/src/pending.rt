@@ -16,7 +16,7 @@ fn no_place(at: usize) -> bool
 }
 
 impl Pending {
-    pub fn new() -> Pending
+    pub(crate) fn new() -> Pending
         ensures { λ r. ⌜ waiting r ≡ [] ⌝ }
     {
         Pending {
@@ -28,21 +28,21 @@ impl Pending {
         }
     }
 
-    pub fn clear(&mut self)
+    pub(crate) fn clear(&mut self)
         ensures { λ _. ⌜ waiting (now (self .exit)) ≡ [] ⌝ }
     {
         self.len = 0;
     }
 
     // How many entries wait.
-    pub fn count(&self) -> usize
+    pub(crate) fn count(&self) -> usize
         ensures { λ r. ⌜ r ≡ min (now (self .entry) .len) 64 ⌝ }
     {
         self.len.min(64)
     }
 
     // The entries that wait.
-    pub fn as_slice(&self) -> &[Entry]
+    pub(crate) fn as_slice(&self) -> &[Entry]
         ensures items { λ r. ⌜ now r ≡ waiting (now (self .entry)) ⌝ }
         ensures size { λ r. ⌜ length (now r) ≡ min (now (self .entry) .len) 64 ⌝ }
     {
@@ -52,7 +52,7 @@ impl Pending {
     }
 
     // Copies a page that waits, if it does.
-    pub fn copy_held(&self, page: usize, buf: &mut [u8]) -> bool
+    pub(crate) fn copy_held(&self, page: usize, buf: &mut [u8]) -> bool
         requires { ⌜ length (now buf) ≡ 252 ⌝ }
         ensures { λ r. ⌜ Copied (waiting (now (self .entry))) page (now (buf .entry)) r (now (buf .exit)) ⌝ }
     {
@@ -79,7 +79,7 @@ impl Pending {
     }
 
     // Keeps the page in its old place or behind the others; false where 64 others wait.
-    pub fn put(&mut self, page: u16, buf: &[u8]) -> bool
+    pub(crate) fn put(&mut self, page: u16, buf: &[u8]) -> bool
         requires { ⌜ length (now buf) ≡ 252 ⌝ }
         ensures { λ r. ⌜ Put (waiting (now (self .entry))) page (now (buf .entry)) r (waiting (now (self .exit))) ⌝ }
     {

@@ -7,14 +7,14 @@ ghost use Rattle.journal.specs.Standing.{above};
 pub const HEADER: usize = 0;
 
 // How many pages there are above.
-pub fn pages_above(count: usize) -> usize
+pub(crate) fn pages_above(count: usize) -> usize
     ensures { λ r. ⌜ r ≡ above count ⌝ }
 {
     count.saturating_sub(65).min(65535)
 }
 
 // The page of body j.
-pub fn body_page(j: usize) -> usize
+pub(crate) fn body_page(j: usize) -> usize
     requires { ⌜ j < 64 ⌝ }
     ensures { λ r. ⌜ r ≡ 1 + j ⌝ }
 {
@@ -22,7 +22,7 @@ pub fn body_page(j: usize) -> usize
 }
 
 // The page below of page i above.
-pub fn home_page(i: usize) -> usize
+pub(crate) fn home_page(i: usize) -> usize
     requires { ⌜ i < 65536 ⌝ }
     ensures { λ r. ⌜ r ≡ 65 + i ⌝ }
 {

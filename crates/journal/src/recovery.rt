@@ -91,7 +91,7 @@ fn load_group<D: Device>(
 }
 
 // Restarts the device below; then lays the group that stands, or else clears the header alone.
-pub fn recover<D: Device>(below: &mut D, work: &mut Pending) -> Result<(), DeviceFault>
+pub(crate) fn recover<D: Device>(below: &mut D, work: &mut Pending) -> Result<(), DeviceFault>
     ensures agrees { λ r. ⌜ (agrees (now (below .entry)) → agrees (now (below .exit))) ⌝ }
     ensures makes { λ r. ⌜ (agrees (now (below .entry)) → Restarting meaning (now (below .entry)) r (now (below .exit))) ⌝ }
     ensures recovered { λ r. ⌜ (agrees (now (below .entry)) → Recovered (reader (meaning (now (below .entry)))) (meaning (now (below .entry))) r (meaning (now (below .exit)))) ⌝ }

@@ -69,7 +69,7 @@ fn set_header<D: Device>(below: &mut D, page: &[u8; 252]) -> Result<(), DeviceFa
 }
 
 // Step 4: a header that names none, and a sync.
-pub fn clear<D: Device>(below: &mut D) -> Result<(), DeviceFault>
+pub(crate) fn clear<D: Device>(below: &mut D) -> Result<(), DeviceFault>
     ensures agrees { λ r. ⌜ (agrees (now (below .entry)) → agrees (now (below .exit))) ⌝ }
     ensures makes { λ r. ⌜ (agrees (now (below .entry)) → meaning (now (below .entry)) .runs ≡ true → Makes meaning step4 r (now (below .entry)) (now (below .exit))) ⌝ }
     ensures set { λ r. ⌜ (agrees (now (below .entry)) → HeadReady (meaning (now (below .entry))) → HeadSet agrees meaning (header []) (now (below .entry)) r (now (below .exit))) ⌝ }
@@ -78,7 +78,7 @@ pub fn clear<D: Device>(below: &mut D) -> Result<(), DeviceFault>
 }
 
 // Steps 3 and 4: the home pages, then a header that names none, each synced.
-pub fn finish<D: Device>(below: &mut D, entries: &[Entry]) -> Result<(), DeviceFault>
+pub(crate) fn finish<D: Device>(below: &mut D, entries: &[Entry]) -> Result<(), DeviceFault>
     requires { ⌜ length (now entries) ≤ 64 ⌝ }
     ensures agrees { λ r. ⌜ (agrees (now (below .entry)) → agrees (now (below .exit))) ⌝ }
     ensures makes { λ r. ⌜ (agrees (now (below .entry)) → meaning (now (below .entry)) .runs ≡ true → Makes meaning (step3 (now (entries .entry)) ++ step4) r (now (below .entry)) (now (below .exit))) ⌝ }
@@ -89,7 +89,7 @@ pub fn finish<D: Device>(below: &mut D, entries: &[Entry]) -> Result<(), DeviceF
 }
 
 // The four steps: the bodies, the header that names them, the home pages, and a header that names none, each synced.
-pub fn commit<D: Device>(below: &mut D, entries: &[Entry]) -> Result<(), DeviceFault>
+pub(crate) fn commit<D: Device>(below: &mut D, entries: &[Entry]) -> Result<(), DeviceFault>
     requires { ⌜ length (now entries) ≤ 64 ⌝ }
     ensures agrees { λ r. ⌜ (agrees (now (below .entry)) → agrees (now (below .exit))) ⌝ }
     ensures makes { λ r. ⌜ (agrees (now (below .entry)) → meaning (now (below .entry)) .runs ≡ true → Makes meaning (step1 (now (entries .entry)) ++ (step2 (now (entries .entry)) ++ (step3 (now (entries .entry)) ++ step4))) r (now (below .entry)) (now (below .exit))) ⌝ }
