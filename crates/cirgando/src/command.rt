@@ -102,12 +102,12 @@ pub(crate) impl fmt::Display for Wrong as WrongDisplay {
 
 /// The command that a line writes; none on a blank line or a comment.
 pub(crate) fn parse(line: &[u8]) -> Result<Option<Command<'_>>, Wrong> {
+    if let [b'#', ..] = line {
+        return Ok(None);
+    }
     let Ok(text) = std::str::from_utf8(line) else {
         return Err(Wrong::NotText);
     };
-    if text.starts_with('#') {
-        return Ok(None);
-    }
     let mut words = text.split_whitespace();
     match words.next() {
         None => Ok(None),

@@ -12,5 +12,8 @@ use std::io::BufReader;
 fn main(rt: LibcRuntime) -> Result<(), AnyError> {
     let mut script = Script::new(BufReader::new(rt.stdin()), rt.alloc());
     let played = session::play(&rt, &mut script);
-    rt.report(played)
+    if let Err(e) = &played {
+        eprintln!(rt, "cirgando: {e}")?;
+    }
+    played
 }
