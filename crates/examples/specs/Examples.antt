@@ -4,11 +4,12 @@ use mathlib.Core.List.{List, [], _∷_}
 use mathlib.Core.Path.{_≡_}
 use Prim.Native.Nat.{ℕ}
 use lib.Chars.{codes}
+use lib.Dec.{leb}
 use lib.ListN.{replicate}
 use Rattle.std.specs.declared.option.Option.the-variants.{Some}
 use Rattle.crc.specs.Crc32.{crc-of}
 use Rattle.keys.specs.Text.{texts}
-use Rattle.tree.specs.Classes.{scan, draft, rowOf, lastDay}
+use Rattle.tree.specs.Classes.{scan, mark, draft, rowOf, lastDay}
 use Rattle.tree.specs.Maps.{Rec}
 use Rattle.tree.specs.Loads.{loads}
 use Rattle.tree.specs.Trees.{buckets, depth}
@@ -33,6 +34,10 @@ Keys =
 -- a scan entry, letter s, that is put on day 99,999
 abbrev pub Days : Type 0
 Days = (rowOf 0x73 ≡ Some scan) × (lastDay scan 99999 ≡ 100729)
+
+-- marks, letter m: a value of 24 bytes is within the limit, one of 25 is not
+abbrev pub Marks : Type 0
+Marks = (rowOf 0x6D ≡ Some mark) × (leb 24 (mark .longest) ≡ true) × (leb 25 (mark .longest) ≡ false)
 
 -- a draft of v bytes, put on day 0
 abbrev pub D : List ℕ → ℕ → Rec
@@ -60,4 +65,4 @@ Trees =
 
 -- the whole list
 abbrev pub Examples : Type 0
-Examples = Checks × Keys × Days × Trees
+Examples = Checks × Keys × Days × Marks × Trees

@@ -11,7 +11,7 @@ use Rattle.std.proofs.shelf.Lists.{take-all, take-at, drop-at, append-assoc, le
 use Rattle.std.proofs.shelf.Tests.{eqb-true, eq-eqb, and-from, and-parts, false≢true}
 use Rattle.layout.specs.Envelope.{envelope, Enveloped, bodyPart, same, Extended}
 
-split-eq : (p q r s : List ℕ) → length p ≡ length r → p ++ q ≡ r ++ s → (p ≡ r) × (q ≡ s)
+pub split-eq : (p q r s : List ℕ) → length p ≡ length r → p ++ q ≡ r ++ s → (p ≡ r) × (q ≡ s)
 split-eq p q r s l e = (
   sym (take-at p q (length p) refl) ∙ ap (take (length p)) e ∙ take-at r s (length p) (sym l),
   sym (drop-at p q (length p) refl) ∙ ap (drop (length p)) e ∙ drop-at r s (length p) (sym l),

@@ -8,5 +8,5 @@ pub returns : need.returns
 unfolding byte-in load tree longest
 returns c = record {
   value = c .check-of-digits .ensures;
-  examples = ((refl, refl, refl), (refl, refl, refl, refl, refl, refl), (refl, refl), (refl, refl, refl, refl));
+  examples = ((refl, refl, refl), (refl, refl, refl, refl, refl, refl), (refl, refl), (refl, refl, refl), (refl, refl, refl, refl));
 }

@@ -1,0 +1,14 @@
+pub mod Codec
+pub mod Envelopes
+pub mod Walks
+pub mod Readings
+pub mod Changed
+pub mod Placing
+pub mod Deciding
+pub mod Checking
+pub mod Gathering
+pub mod Whole
+pub mod Emptied
+pub mod Looking
+pub mod Forming
+pub mod Writing

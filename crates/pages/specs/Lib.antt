@@ -1,0 +1,10 @@
+pub mod Tells
+pub mod Bytes
+pub mod Records
+pub mod Images
+pub mod Laws
+pub mod Surveys
+pub mod Checks
+pub mod Gathered
+pub mod Formats
+pub mod Reads
