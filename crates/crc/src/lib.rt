@@ -1,4 +1,6 @@
 //! CRC-32 of IEEE 802.3, by eight bytes at a time ("slicing by 8").
+#![tactic(auto)]
+
 ghost use Rattle.std.specs.Prelude.{◌≡◌, ℕ, ◌-◌, ◌%◌, List, ◌++◌, length, bit_xor};
 ghost use Rattle.crc.specs.Crc32.{After, byte_in, crc_of, register, zeros_in};
 

@@ -1,5 +1,7 @@
 //! The interface of a page device and of a group device. What each call does is said by a ghost meaning alone, so that whatever stands on
 //! a device is proved once, for every device.
+#![tactic(auto)]
+
 ghost use Rattle.std.specs.Prelude.{◌≡◌};
 ghost use Rattle.device.specs.Calls.{reads, writes, syncs, restarts, discards};
 ghost use Rattle.device.specs.Clauses.{Does, GroupDoes};

@@ -25,9 +25,9 @@ fn unspoiled(r: Result<(), DeviceFault>) -> Result<bool, DeviceFault>
 
 // Whether the page shows bytes, which are then in the buffer.
 fn look<D: Device>(below: &mut D, page: usize, buf: &mut [u8; 252]) -> Result<bool, DeviceFault>
-    ensures agrees { agrees below.old → agrees below.new }
-    ensures makes { agrees below.old → (meaning below.old).runs ≡ true → Makes meaning [] (bare result) below.old below.new }
-    ensures looked { agrees below.old → page < (meaning below.old).count → Looked (meaning below.old) page result buf.new (meaning below.new) }
+    ensures agrees { D.Device.agrees below.old → D.Device.agrees below.new }
+    ensures makes { D.Device.agrees below.old → (D.Device.meaning below.old).runs ≡ true → Makes D.Device.meaning [] (bare result) below.old below.new }
+    ensures looked { D.Device.agrees below.old → page < (D.Device.meaning below.old).count → Looked (D.Device.meaning below.old) page result buf.new (D.Device.meaning below.new) }
 {
     let r = below.read(page, buf);
     unspoiled(r)
@@ -36,9 +36,9 @@ fn look<D: Device>(below: &mut D, page: usize, buf: &mut [u8; 252]) -> Result<bo
 // Whether the bodies of these pages are whole; if so they are in memory.
 fn load<D: Device>(below: &mut D, pages: &[u16], into: &mut Pending) -> Result<bool, DeviceFault>
     requires { length pages.now ≤ 64 }
-    ensures agrees { agrees below.old → agrees below.new }
-    ensures makes { agrees below.old → (meaning below.old).runs ≡ true → Makes meaning [] (bare result) below.old below.new }
-    ensures loaded { agrees below.old → Awake (meaning below.old) → Loaded pages.now (meaning below.old) result into.new (meaning below.new) }
+    ensures agrees { D.Device.agrees below.old → D.Device.agrees below.new }
+    ensures makes { D.Device.agrees below.old → (D.Device.meaning below.old).runs ≡ true → Makes D.Device.meaning [] (bare result) below.old below.new }
+    ensures loaded { D.Device.agrees below.old → Awake (D.Device.meaning below.old) → Loaded pages.now (D.Device.meaning below.old) result into.new (D.Device.meaning below.new) }
 {
     for (j, page) in pages.iter().enumerate() {
         let mut bytes = [0; 252];
@@ -53,9 +53,9 @@ fn load<D: Device>(below: &mut D, pages: &[u16], into: &mut Pending) -> Result<b
 
 // The targets that the header names; none where it is spoiled.
 fn read_header<D: Device>(below: &mut D, count: usize) -> Result<Targets, DeviceFault>
-    ensures agrees { agrees below.old → agrees below.new }
-    ensures makes { agrees below.old → (meaning below.old).runs ≡ true → Makes meaning [] (bare result) below.old below.new }
-    ensures header { agrees below.old → Awake (meaning below.old) → HeaderRead (targets count) (meaning below.old) result (meaning below.new) }
+    ensures agrees { D.Device.agrees below.old → D.Device.agrees below.new }
+    ensures makes { D.Device.agrees below.old → (D.Device.meaning below.old).runs ≡ true → Makes D.Device.meaning [] (bare result) below.old below.new }
+    ensures header { D.Device.agrees below.old → Awake (D.Device.meaning below.old) → HeaderRead (targets count) (D.Device.meaning below.old) result (D.Device.meaning below.new) }
 {
     let mut page = [0; 252];
     if look(below, HEADER, &mut page)? {
@@ -70,9 +70,9 @@ fn load_group<D: Device>(
     count: usize,
     into: &mut Pending,
 ) -> Result<bool, DeviceFault>
-    ensures agrees { agrees below.old → agrees below.new }
-    ensures makes { agrees below.old → (meaning below.old).runs ≡ true → Makes meaning [] (bare result) below.old below.new }
-    ensures found { agrees below.old → Awake (meaning below.old) → Found (targets count) (meaning below.old) result into.new (meaning below.new) }
+    ensures agrees { D.Device.agrees below.old → D.Device.agrees below.new }
+    ensures makes { D.Device.agrees below.old → (D.Device.meaning below.old).runs ≡ true → Makes D.Device.meaning [] (bare result) below.old below.new }
+    ensures found { D.Device.agrees below.old → Awake (D.Device.meaning below.old) → Found (targets count) (D.Device.meaning below.old) result into.new (D.Device.meaning below.new) }
 {
     let named = read_header(below, count)?;
     if named.len == 0 {
@@ -83,9 +83,9 @@ fn load_group<D: Device>(
 
 // Restarts the device below; then lays the group that stands, or else clears the header alone.
 pub(crate) fn recover<D: Device>(below: &mut D, work: &mut Pending) -> Result<(), DeviceFault>
-    ensures agrees { agrees below.old → agrees below.new }
-    ensures makes { agrees below.old → Restarting meaning below.old result below.new }
-    ensures recovered { agrees below.old → Recovered (reader (meaning below.old)) (meaning below.old) result (meaning below.new) }
+    ensures agrees { D.Device.agrees below.old → D.Device.agrees below.new }
+    ensures makes { D.Device.agrees below.old → Restarting D.Device.meaning below.old result below.new }
+    ensures recovered { D.Device.agrees below.old → Recovered (reader (D.Device.meaning below.old)) (D.Device.meaning below.old) result (D.Device.meaning below.new) }
 {
     below.restart()?;
     let count = pages_above(below.page_count());

@@ -27,9 +27,9 @@ fn place(home: bool, j: usize, e: &Entry) -> usize
 // Writes the entries to their home pages, or as bodies.
 fn write_entries<D: Device>(below: &mut D, entries: &[Entry], home: bool) -> Result<(), DeviceFault>
     requires { length entries.now ≤ 64 }
-    ensures agrees { agrees below.old → agrees below.new }
-    ensures makes { agrees below.old → (meaning below.old).runs ≡ true → Makes meaning (placed home 0 entries.now) result below.old below.new }
-    ensures wrote { agrees below.old → Ready home entries.now (meaning below.old) → WroteAll home entries.now (meaning below.old) result (meaning below.new) }
+    ensures agrees { D.Device.agrees below.old → D.Device.agrees below.new }
+    ensures makes { D.Device.agrees below.old → (D.Device.meaning below.old).runs ≡ true → Makes D.Device.meaning (placed home 0 entries.now) result below.old below.new }
+    ensures wrote { D.Device.agrees below.old → Ready home entries.now (D.Device.meaning below.old) → WroteAll home entries.now (D.Device.meaning below.old) result (D.Device.meaning below.new) }
 {
     for (j, e) in entries.iter().enumerate() {
         below.write(place(home, j, e), &e.bytes)?;
@@ -44,9 +44,9 @@ fn settle_entries<D: Device>(
     home: bool,
 ) -> Result<(), DeviceFault>
     requires { length entries.now ≤ 64 }
-    ensures agrees { agrees below.old → agrees below.new }
-    ensures makes { agrees below.old → (meaning below.old).runs ≡ true → Makes meaning (settling home entries.now) result below.old below.new }
-    ensures settled { agrees below.old → Ready home entries.now (meaning below.old) → SettledAll agrees meaning home entries.now below.old result below.new }
+    ensures agrees { D.Device.agrees below.old → D.Device.agrees below.new }
+    ensures makes { D.Device.agrees below.old → (D.Device.meaning below.old).runs ≡ true → Makes D.Device.meaning (settling home entries.now) result below.old below.new }
+    ensures settled { D.Device.agrees below.old → Ready home entries.now (D.Device.meaning below.old) → SettledAll D.Device.agrees D.Device.meaning home entries.now below.old result below.new }
 {
     write_entries(below, entries, home)?;
     below.sync()
@@ -54,9 +54,9 @@ fn settle_entries<D: Device>(
 
 // The header, and a sync.
 fn set_header<D: Device>(below: &mut D, page: &[u8; 252]) -> Result<(), DeviceFault>
-    ensures agrees { agrees below.old → agrees below.new }
-    ensures makes { agrees below.old → (meaning below.old).runs ≡ true → Makes meaning (heading page.now) result below.old below.new }
-    ensures set { agrees below.old → HeadReady (meaning below.old) → HeadSet agrees meaning page.now below.old result below.new }
+    ensures agrees { D.Device.agrees below.old → D.Device.agrees below.new }
+    ensures makes { D.Device.agrees below.old → (D.Device.meaning below.old).runs ≡ true → Makes D.Device.meaning (heading page.now) result below.old below.new }
+    ensures set { D.Device.agrees below.old → HeadReady (D.Device.meaning below.old) → HeadSet D.Device.agrees D.Device.meaning page.now below.old result below.new }
 {
     below.write(HEADER, page)?;
     below.sync()
@@ -64,9 +64,9 @@ fn set_header<D: Device>(below: &mut D, page: &[u8; 252]) -> Result<(), DeviceFa
 
 // Step 4: a header that names none, and a sync.
 pub(crate) fn clear<D: Device>(below: &mut D) -> Result<(), DeviceFault>
-    ensures agrees { agrees below.old → agrees below.new }
-    ensures makes { agrees below.old → (meaning below.old).runs ≡ true → Makes meaning step4 result below.old below.new }
-    ensures set { agrees below.old → HeadReady (meaning below.old) → HeadSet agrees meaning (header []) below.old result below.new }
+    ensures agrees { D.Device.agrees below.old → D.Device.agrees below.new }
+    ensures makes { D.Device.agrees below.old → (D.Device.meaning below.old).runs ≡ true → Makes D.Device.meaning step4 result below.old below.new }
+    ensures set { D.Device.agrees below.old → HeadReady (D.Device.meaning below.old) → HeadSet D.Device.agrees D.Device.meaning (header []) below.old result below.new }
 {
     set_header(below, &empty_page())
 }
@@ -74,9 +74,9 @@ pub(crate) fn clear<D: Device>(below: &mut D) -> Result<(), DeviceFault>
 // Steps 3 and 4: the home pages, then a header that names none, each synced.
 pub(crate) fn finish<D: Device>(below: &mut D, entries: &[Entry]) -> Result<(), DeviceFault>
     requires { length entries.now ≤ 64 }
-    ensures agrees { agrees below.old → agrees below.new }
-    ensures makes { agrees below.old → (meaning below.old).runs ≡ true → Makes meaning (step3 entries.now ++ step4) result below.old below.new }
-    ensures finished { agrees below.old → (T : State → List ℕ) (base : ℕ → State) → LayReady T entries.now base (meaning below.old) → Finished T entries.now base (meaning below.old) result (meaning below.new) }
+    ensures agrees { D.Device.agrees below.old → D.Device.agrees below.new }
+    ensures makes { D.Device.agrees below.old → (D.Device.meaning below.old).runs ≡ true → Makes D.Device.meaning (step3 entries.now ++ step4) result below.old below.new }
+    ensures finished { D.Device.agrees below.old → (T : State → List ℕ) (base : ℕ → State) → LayReady T entries.now base (D.Device.meaning below.old) → Finished T entries.now base (D.Device.meaning below.old) result (D.Device.meaning below.new) }
 {
     settle_entries(below, entries, true)?;
     clear(below)
@@ -85,9 +85,9 @@ pub(crate) fn finish<D: Device>(below: &mut D, entries: &[Entry]) -> Result<(), 
 // The four steps: the bodies, the header that names them, the home pages, and a header that names none, each synced.
 pub(crate) fn commit<D: Device>(below: &mut D, entries: &[Entry]) -> Result<(), DeviceFault>
     requires { length entries.now ≤ 64 }
-    ensures agrees { agrees below.old → agrees below.new }
-    ensures makes { agrees below.old → (meaning below.old).runs ≡ true → Makes meaning (step1 entries.now ++ (step2 entries.now ++ (step3 entries.now ++ step4))) result below.old below.new }
-    ensures committed { agrees below.old → (T : State → List ℕ) (base : ℕ → State) → CommitReady T entries.now base (meaning below.old) → Committed T entries.now base (meaning below.old) result (meaning below.new) }
+    ensures agrees { D.Device.agrees below.old → D.Device.agrees below.new }
+    ensures makes { D.Device.agrees below.old → (D.Device.meaning below.old).runs ≡ true → Makes D.Device.meaning (step1 entries.now ++ (step2 entries.now ++ (step3 entries.now ++ step4))) result below.old below.new }
+    ensures committed { D.Device.agrees below.old → (T : State → List ℕ) (base : ℕ → State) → CommitReady T entries.now base (D.Device.meaning below.old) → Committed T entries.now base (D.Device.meaning below.old) result (D.Device.meaning below.new) }
 {
     settle_entries(below, entries, false)?;
     set_header(below, &header_of(entries))?;

@@ -4,7 +4,7 @@ use Rattle.std.specs.Str.{bytes_eq}
 use Rattle.crc.specs.Crc32.{crc_of}
 use Rattle.keys.specs.Rule.{Rule}
 
--- the integer rule; `sameBytes` is whether two rows have the same bytes in the same order
+-- the integer rule; `bytes_eq` is whether two rows have the same bytes in the same order
 abbrev pub integers : Rule
 integers = record {
   valid = λ k. (length k == 8);

@@ -17,7 +17,7 @@ all_graphic (x ∷ xs) = graphic x && all_graphic xs
 abbrev pub lowered : ℕ → ℕ
 lowered x = cond (nat_lt x 0x41) x (cond (nat_lt x 0x5B) (x + 0x20) x)
 
--- the text rule; `sameBytes` is whether two rows have the same bytes in the same order
+-- the text rule; `bytes_eq` is whether two rows have the same bytes in the same order
 abbrev pub texts : Rule
 texts = record {
   valid = λ k. nat_le 1 (length k) && (nat_le (length k) 32 && all_graphic k);

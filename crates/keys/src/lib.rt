@@ -1,12 +1,12 @@
 //! Key rules: which bytes are a key, which two keys are the same, and the hash by which a key is filed.
-ghost use Rattle.std.specs.Prelude.{◌≡◌, true, map, Decides, MatchBool, ◌≢◌};
+#![tactic(auto)]
+
+ghost use Rattle.std.specs.Prelude.{◌≡◌, ◌≢◌, map, MatchBool};
 ghost use Rattle.crc.specs.Crc32.{byte_in, crc_of};
-ghost use Rattle.std.specs.Cmp.Lexicographic.{Matches};
 ghost use Rattle.keys.specs.Integers.{integers};
 ghost use Rattle.keys.specs.Rule.{Lawful, Rule};
 ghost use Rattle.keys.specs.Text.{all_graphic, graphic, lowered, texts};
-ghost use Rattle.std.proofs.Common.{rules};
-ghost use Rattle.keys.specs.Compared.{same_refl, same_sym, same_trans, same_made};
+ghost use Rattle.keys.specs.Laws.{integers_lawful, texts_lawful};
 
 /// A rule on keys. It is a type: no value of it is needed, and what it says never changes. Every call takes any bytes.
 pub trait KeyRule {
@@ -38,14 +38,7 @@ pub struct IntegerKeys;
 impl KeyRule for IntegerKeys {
     ghost rule = { integers };
 
-    ghost lawful = { record {
-      short = Prim.search rules;
-      reflexive = λ k v. same_refl (λ b. b) k;
-      symmetric = λ j k v w e. same_sym (λ b. b) j k e;
-      transitive = λ i j k u v w d e. same_trans (λ b. b) i j k d e;
-      hashes = λ j k v w e. same_made (λ b. b) crc_of j k e;
-      bits = Prim.search rules;
-    } };
+    ghost lawful = { integers_lawful };
 
     fn is_valid(key: &[u8]) -> bool {
         key.len() == 8
@@ -71,14 +64,7 @@ pub struct TextKeys;
 impl KeyRule for TextKeys {
     ghost rule = { texts };
 
-    ghost lawful = { record {
-      short = Prim.search rules;
-      reflexive = λ k v. same_refl (map lowered) k;
-      symmetric = λ j k v w e. same_sym (map lowered) j k e;
-      transitive = λ i j k u v w d e. same_trans (map lowered) i j k d e;
-      hashes = λ j k v w e. same_made (map lowered) crc_of j k e;
-      bits = Prim.search rules;
-    } };
+    ghost lawful = { texts_lawful };
 
     fn is_valid(key: &[u8]) -> bool {
         1 <= key.len() && key.len() <= 32 && is_all_graphic(key)
@@ -103,7 +89,7 @@ impl KeyRule for TextKeys {
 
 /// Whether two rows of bytes are equal, byte by byte.
 fn same_bytes(a: &[u8], b: &[u8]) -> bool
-    ensures { Matches (λ x y t. Decides t (x ≡ y)) a.now b.now result }
+    ensures { MatchBool result (a.now ≡ b.now) (a.now ≢ b.now) }
 {
     a == b
 }

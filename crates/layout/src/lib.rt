@@ -1,4 +1,6 @@
 //! The layout of a page: a version byte 1, two bytes of body length, the body, then zeros.
+#![tactic(auto)]
+
 ghost use Rattle.std.specs.Prelude.{◌≡◌, ℕ, ◌+◌, ◌*◌, List, [], ◌∷◌, length, replicate, MatchBool, MatchOption, ◌≢◌};
 ghost use Rattle.layout.specs.Envelope.{envelope, Enveloped, Extended};
 

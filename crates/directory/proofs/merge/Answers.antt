@@ -11,5 +11,5 @@ returns c =
           merged_from a.depth c.narrow-narrow.result a.hash a.bits a.page (at a.entries.now) (at c.assign.new.entries) (at c.narrow-narrow.new.entries) (at c.clear.new.entries) d m
           (λ i h. c.assign.ensures.used i h ∙ ap (λ p. assigned a.depth a.bits p a.page (at a.entries.now) i) c.prefix-prefix.ensures)
           c.narrow-narrow.ensures.narrowed c.clear.ensures.used c.narrow-narrow.ensures.least c.clear.ensures.rest;
-      unfit = λ off. absurd (off c.if-not-merge-fits.ensures);
+      unfit = λ off. absurd (off c.if-not-merge_fits.ensures);
     }

@@ -5,11 +5,11 @@ use Rattle.directory.proofs.Filling.{wide_is}
 use Rattle.directory.proofs.Narrowing.{narrowed_more}
 use Rattle.directory.proofs.narrow.Goals as goal
 
-pub returns-then-not-pairs-agree : goal.returns-then-not-pairs-agree
-returns-then-not-pairs-agree c =
+pub returns-then-not-pairs_agree : goal.returns-then-not-pairs_agree
+returns-then-not-pairs_agree c =
     let b = c.loop-bits.bits - 1 in
     let e : c.loop-bits.bits ≡ b + 1 = omega arith in
-    let r = c.if-not-pairs-agree.ensures in
+    let r = c.if-not-pairs_agree.ensures in
     let z : b + 1 ≡ suc b = omega arith in
     let l : 2 * r.0 + 1 < 2 ^ (b + 1) = subst (λ k. 2 * r.0 + 1 < 2 ^ k) (sym z) (omega (arith, r.1, wide_is b (omega (arith, c.loop-bits.auto.bits, c.requires)), pow-suc 2 b)) in
     record {
@@ -24,4 +24,4 @@ loop-bits-preserved c =
     let z = wide_is b (omega (arith, c.loop-bits.auto.bits, c.requires)) in
     narrowed_more c.args.depth b (at c.args.entries.now) (at c.loop-bits.entries) (at c.halve.new.entries)
     (subst (λ u. NarrowedTo c.args.depth u (at c.args.entries.now) (at c.loop-bits.entries)) e c.loop-bits.invariant)
-    (λ i h. c.if-not-pairs-agree.ensures i (omega (arith, z))) (λ i h. c.halve.ensures.used i (omega (arith, z)))
+    (λ i h. c.if-not-pairs_agree.ensures i (omega (arith, z))) (λ i h. c.halve.ensures.used i (omega (arith, z)))

@@ -10,11 +10,11 @@ loop-j-init c w E d s f =
     let a = c.args in
     reached_none w a.depth a.limit a.hash a.bits a.target E d s f.wider c.requires.within (omega arith) (at a.entries.now) f
 
-pub returns-in-default : goal.returns-in-default
-returns-in-default c w E d s f =
+pub returns-in_default : goal.returns-in_default
+returns-in_default c w E d s f =
     let a = c.args in
     reached_short w a.depth a.limit a.hash a.bits a.target E d s f.wider c.requires.within (omega arith) c.loop-j.j c.loop-j.auto.j c.loop-j-test.true (at c.loop-j.entries)
-    (c.loop-j.invariant w E d s f) c.in-default.ensures
+    (c.loop-j.invariant w E d s f) c.in_default.ensures
 
 pub loop-j-preserved : goal.loop-j-preserved
 loop-j-preserved c w E d s f =

@@ -7,6 +7,6 @@ use Rattle.examples.proofs.check_value.Goals as goal
 pub returns : goal.returns
 unfolding byte_in load tree longest
 returns c = record {
-  value = c.check-of-digits.ensures;
+  value = c.check_of_digits.ensures;
   examples = ((refl, refl, refl), (refl, refl, refl, refl, refl, refl), (refl, refl), (refl, refl, refl), (refl, refl, refl, refl));
 }

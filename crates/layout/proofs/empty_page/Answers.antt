@@ -3,4 +3,4 @@ use Rattle.layout.proofs.empty_page.Goals as goal
 
 pub returns : goal.returns
 unfolding envelope
-returns c = c.blank-page.ensures
+returns c = c.blank_page.ensures

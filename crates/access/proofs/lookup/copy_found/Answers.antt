@@ -5,8 +5,8 @@ use Rattle.access.specs.declared.lookup.Found.{Found}
 use Rattle.access.proofs.Seeking.{bucket_bytes, found_in, fine_short, front_filled}
 use Rattle.access.proofs.lookup.copy_found.Goals as goal
 
-pub returns-in-default-find : goal.returns-in-default-find
-returns-in-default-find g c = λ d rs b fine l. (c.in-default-find.ensures rs (bucket_bytes g.K.KeyRule.rule.valid c.args.page.now c.in-Some.bytes.now _ d rs c.in-Some.ensures b), refl)
+pub returns-in_default-find : goal.returns-in_default-find
+returns-in_default-find g c = λ d rs b fine l. (c.in_default-find.ensures rs (bucket_bytes g.K.KeyRule.rule.valid c.args.page.now c.in-Some.bytes.now _ d rs c.in-Some.ensures b), refl)
 
 pub returns-then-n-buf : goal.returns-then-n-buf
 returns-then-n-buf g c = λ d rs b fine l.
@@ -22,6 +22,6 @@ returns g c = λ d rs b fine l.
       x,
       found_in g.K.KeyRule.rule.same c.args.key.now rs _ x q,
       q.hit,
-      ap (λ (z : ℕ). record { letter = z; last_day = c.in-Some-find.stored.day; length = length c.in-Some-find.stored.value.now }) c.letter-of.ensures,
-      front_filled (length c.in-Some-find.stored.value.now) c.args.buf.now c.copy-from-slice.new.self c.in-Some-find.stored.value.now c.copy-from-slice.ensures.after refl,
+      ap (λ (z : ℕ). record { letter = z; last_day = c.in-Some-find.stored.day; length = length c.in-Some-find.stored.value.now }) c.letter_of.ensures,
+      front_filled (length c.in-Some-find.stored.value.now) c.args.buf.now c.copy_from_slice.new.self c.in-Some-find.stored.value.now c.copy_from_slice.ensures.after refl,
     )

@@ -6,7 +6,7 @@ returns g c =
     let R = g.K.KeyRule.rule in
     let law = g.met.K.KeyRule.lawful in
     record {
-      most = c.merged-bytes.ensures;
+      most = c.merged_bytes.ensures;
       beside = beside_kept R law;
       joined = siblings_joined R law;
       up = merged_up R law;

@@ -7,7 +7,7 @@ returns g c =
     let R = g.K.KeyRule.rule in
     let law = g.met.K.KeyRule.lawful in
     record {
-      most = c.siblings-left.ensures;
+      most = c.siblings_left.ensures;
       found = own_found R law;
       sibling = sibling_left R law;
       own = own_left R law;

@@ -8,6 +8,6 @@ returns-then-own-eq120 c =
     let w = c.args.word.now in
     let is : marked w ≡ true = search rules in
     record {
-      hex = λ _. subst (λ (ds : List ℕ). IfOk c.unhex.result (λ o. MatchOption o (Hex ds → ⊥) (λ v. Hex ds × (vec_items v ≡ written ds)))) (c.split-at.ensures.back ∙ ap (drop 2) c.as-bytes-own.ensures.value) c.unhex.ensures;
+      hex = λ _. subst (λ (ds : List ℕ). IfOk c.unhex.result (λ o. MatchOption o (Hex ds → ⊥) (λ v. Hex ds × (vec_items v ≡ written ds)))) (c.split_at.ensures.back ∙ ap (drop 2) c.as_bytes-own.ensures.value) c.unhex.ensures;
       plain = λ f. absurd (both_ways (marked w) f is);
     }

@@ -29,13 +29,13 @@ loop-i-preserved c =
     let fits = c.requires.0 in
     let still = marked_still (cut_page s w k ls T) s k n fits c.requires.1.1 i c.loop-i.settled c.loop-i.marks inv lt in
     let old : raw c.loop-i.settled i ≡ raw s i = inv.todo i (omega arith) lt in
-    let at = c.cut-page-turn.ensures.turn ∙ ap (λ b. c.loop-i.turn + cond b 1 0) still in
-    let is : c.cut-page-turn.result ≡ rank k (i + 1) = at ∙ (ap (λ t. t + cond (marked k i) 1 0) c.loop-i.invariant.0 ∙ sym (rank_more k i)) in
+    let at = c.cut_page-turn.ensures.turn ∙ ap (λ b. c.loop-i.turn + cond b 1 0) still in
+    let is : c.cut_page-turn.result ≡ rank k (i + 1) = at ∙ (ap (λ t. t + cond (marked k i) 1 0) c.loop-i.invariant.0 ∙ sym (rank_more k i)) in
     let few : cond (marked k i) 1 0 ≤ 1 = cond_both (marked k i) 1 0 (λ x. x ≤ 1) (λ _. omega arith) (λ _. omega arith) in (
       is,
       omega (arith, at, few, c.loop-i.invariant.1),
       swept_step (cut_page s w k ls T) s k n fits c.requires.1.1 i c.loop-i.settled c.loop-i.marks inv lt
-          (chosen (letter_of ls c.loop-i.turn) T (raw c.loop-i.settled i) (raw w i)) _ _ c.cut-page-turn.ensures.settled c.cut-page-turn.ensures.marks
+          (chosen (letter_of ls c.loop-i.turn) T (raw c.loop-i.settled i) (raw w i)) _ _ c.cut_page-turn.ensures.settled c.cut_page-turn.ensures.marks
           (length_chosen (letter_of ls c.loop-i.turn) T (raw c.loop-i.settled i) (raw w i)
           (length_raw c.loop-i.settled i (omega (arith, fits, inv.length_s))) (length_raw w i (omega (arith, c.requires.1.0))))
           (λ t. ap (λ m. chosen (letter_of ls m) T (raw c.loop-i.settled i) (raw w i)) c.loop-i.invariant.0

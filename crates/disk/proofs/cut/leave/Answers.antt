@@ -11,9 +11,9 @@ returns-in-111 c =
 pub returns-in-110 : goal.returns-in-110
 returns-in-110 c =
     let s = c.args.settled.now in let w = c.args.written.now in let i = c.args.i in
-    c.put-page.ensures ∙ ap (put_raw s i) (c.page-of.ensures.0 ∙ sym (chosen_n c.args.letter c.args.t (raw s i) (raw w i) c.in-110.is))
+    c.put_page.ensures ∙ ap (put_raw s i) (c.page_of.ensures.0 ∙ sym (chosen_n c.args.letter c.args.t (raw s i) (raw w i) c.in-110.is))
 
-pub returns-in-default : goal.returns-in-default
-returns-in-default c =
+pub returns-in_default : goal.returns-in_default
+returns-in_default c =
     let s = c.args.settled.now in let w = c.args.written.now in let i = c.args.i in
     c.tear.ensures ∙ ap (put_raw s i) (sym (chosen_t c.args.letter c.args.t (raw s i) (raw w i) (search rules) (search rules)))

@@ -19,12 +19,12 @@ module _ (T : ℕ) (old new out o₁ n₁ o₂ n₂ : List ℕ) (b : Bool) (e₁
   is_old : b ≡ true → torn T old new ≡ old
   is_old t = torn_old T old new b meant t
 
-pub returns-then-not-is-false-page : goal.returns-then-not-is-false-page
-returns-then-not-is-false-page c =
+pub returns-then-not-is_false_page : goal.returns-then-not-is_false_page
+returns-then-not-is_false_page c =
     let s = c.args.settled.now in let w = c.args.written.now in let i = c.args.i in
-    c.put-page.ensures ∙ ap (put_raw s i) (is_mix c.args.t (raw s i) (raw w i) c.blend.new.out _ _ _ _ c.is-false-page.result c.page-of.ensures.0 c.page-of-2.ensures.0 c.page-of-3.ensures.0 c.page-of-4.ensures.0 c.blend.ensures c.is-false-page.ensures c.if-not-is-false-page.true)
+    c.put_page.ensures ∙ ap (put_raw s i) (is_mix c.args.t (raw s i) (raw w i) c.blend.new.out _ _ _ _ c.is_false_page.result c.page_of.ensures.0 c.page_of-2.ensures.0 c.page_of-3.ensures.0 c.page_of-4.ensures.0 c.blend.ensures c.is_false_page.ensures c.if-not-is_false_page.true)
 
-pub returns-else-not-is-false-page : goal.returns-else-not-is-false-page
-returns-else-not-is-false-page c =
+pub returns-else-not-is_false_page : goal.returns-else-not-is_false_page
+returns-else-not-is_false_page c =
     let s = c.args.settled.now in let w = c.args.written.now in let i = c.args.i in
-    sym (ap (put_raw s i) (is_old c.args.t (raw s i) (raw w i) c.blend.new.out _ _ _ _ c.is-false-page.result c.page-of.ensures.0 c.page-of-2.ensures.0 c.page-of-3.ensures.0 c.page-of-4.ensures.0 c.blend.ensures c.is-false-page.ensures c.if-not-is-false-page.false) ∙ put_self s i)
+    sym (ap (put_raw s i) (is_old c.args.t (raw s i) (raw w i) c.blend.new.out _ _ _ _ c.is_false_page.result c.page_of.ensures.0 c.page_of-2.ensures.0 c.page_of-3.ensures.0 c.page_of-4.ensures.0 c.blend.ensures c.is_false_page.ensures c.if-not-is_false_page.false) ∙ put_self s i)

@@ -5,5 +5,5 @@ use Rattle.disk.proofs.raw.put_page.Goals as goal
 
 pub returns : goal.returns
 returns c =
-    put_is c.args.img.now c.copy-from-slice.new.self c.args.i _ (back (c.args.i * 256) 256)
-    ∙ ap (put_raw c.args.img.now c.args.i) c.copy-from-slice.ensures.after
+    put_is c.args.img.now c.copy_from_slice.new.self c.args.i _ (back (c.args.i * 256) 256)
+    ∙ ap (put_raw c.args.img.now c.args.i) c.copy_from_slice.ensures.after

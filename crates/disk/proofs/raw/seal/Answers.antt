@@ -7,9 +7,9 @@ use Rattle.disk.proofs.raw.seal.Goals as goal
 pub returns : goal.returns
 unfolding sealed
 returns c =
-    let e = c.copy-from-slice.ensures.after in
-    let f = c.copy-from-slice-2.ensures.after ∙ c.to-be-bytes-sum.ensures in
-    seal_is c.copy-from-slice.new.self c.copy-from-slice-2.new.self [] c.args.out.now (ap length e ∙ c.requires.1) c.requires.0 (ap length f)
-    ∙ (ap (λ t. t ++ c.copy-from-slice-2.new.self) e
+    let e = c.copy_from_slice.ensures.after in
+    let f = c.copy_from_slice-2.ensures.after ∙ c.to_be_bytes-sum.ensures in
+    seal_is c.copy_from_slice.new.self c.copy_from_slice-2.new.self [] c.args.out.now (ap length e ∙ c.requires.1) c.requires.0 (ap length f)
+    ∙ (ap (λ t. t ++ c.copy_from_slice-2.new.self) e
     ∙ (ap (λ t. c.args.page.now ++ t) f
     ∙ ap (λ n. c.args.page.now ++ (n / 16777216 % 256) ∷ (n / 65536 % 256) ∷ (n / 256 % 256) ∷ (n % 256) ∷ []) c.check.ensures))

@@ -17,7 +17,7 @@ loop-i-preserved c =
     let k = c.args.marks.now in
     let i = c.loop-i.i in
     swept_step (current s w k) s k c.args.n c.requires.0 c.requires.1.1 i c.loop-i.settled c.loop-i.marks c.loop-i.invariant c.loop-i-test.true
-    (raw w i) _ _ c.settle-page.ensures.settled c.settle-page.ensures.marks
+    (raw w i) _ _ c.settle_page.ensures.settled c.settle_page.ensures.marks
     (length_raw w i (omega (arith, c.requires.1.0)))
     (λ t. sym (cond-true (marked k i) (raw w i) (raw s i) t))
     (λ t. sym (cond-false (marked k i) (raw w i) (raw s i) t))

@@ -14,11 +14,11 @@ tested n xs i r b e f = ap (λ (l : List ℕ). ltb (get_or xs i 0) n && not (has
 
 pub loop-i-preserved : goal.loop-i-preserved
 loop-i-preserved c =
-    c.loop-i.invariant ∙ once_more c.args.count c.args.pages.now c.loop-i.i c.loop-i-test.true (tested c.args.count c.args.pages.now c.loop-i.i c.valid-target.result true c.if-not-valid-target.false c.valid-target.ensures)
+    c.loop-i.invariant ∙ once_more c.args.count c.args.pages.now c.loop-i.i c.loop-i-test.true (tested c.args.count c.args.pages.now c.loop-i.i c.valid_target.result true c.if-not-valid_target.false c.valid_target.ensures)
 
-pub returns-then-not-valid-target : goal.returns-then-not-valid-target
-returns-then-not-valid-target c =
-    sym (c.loop-i.invariant ∙ once_stop c.args.count c.args.pages.now c.loop-i.i c.loop-i-test.true (tested c.args.count c.args.pages.now c.loop-i.i c.valid-target.result false c.if-not-valid-target.true c.valid-target.ensures))
+pub returns-then-not-valid_target : goal.returns-then-not-valid_target
+returns-then-not-valid_target c =
+    sym (c.loop-i.invariant ∙ once_stop c.args.count c.args.pages.now c.loop-i.i c.loop-i-test.true (tested c.args.count c.args.pages.now c.loop-i.i c.valid_target.result false c.if-not-valid_target.true c.valid_target.ensures))
 
 pub returns : goal.returns
 returns c = sym (c.loop-i.invariant ∙ at_drop_all (once c.args.count) c.args.pages.now c.loop-i.i c.loop-i-test.false)

@@ -12,8 +12,8 @@ loop-j-preserved c =
     let few = c.requires.0 in
     let i = c.loop-j.invariant in
     let size = i.0 in (
-      length-set c.loop-j.pages j c.from-be-bytes.result ∙ i.0,
-      ap (λ (x : ℕ). take (j + 1) (set c.loop-j.pages j x)) c.from-be-bytes.ensures ∙ pairs_more body c.loop-j.pages j (omega arith) (omega arith) i.1,
+      length-set c.loop-j.pages j c.from_be_bytes.result ∙ i.0,
+      ap (λ (x : ℕ). take (j + 1) (set c.loop-j.pages j x)) c.from_be_bytes.ensures ∙ pairs_more body c.loop-j.pages j (omega arith) (omega arith) i.1,
     )
 
 pub returns : goal.returns

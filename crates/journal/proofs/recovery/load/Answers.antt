@@ -8,10 +8,10 @@ use Rattle.journal.proofs.recovery.load.Goals as goal
 pub loop-j-init : goal.loop-j-init
 loop-j-init g c = (λ h. h, λ h t. made_none g.D.Device.meaning c.args.below.now, λ h a. loaded_none c.args.pages.now (g.D.Device.meaning c.args.below.now) c.requires a c.args.into.now.entries)
 
-pub returns-in-err-look : goal.returns-in-err-look
-returns-in-err-look g c =
-    let p = err_from_is_err_and c.from-residual.result c.from-residual.ensures.1 in
-    let x = c.in-err-look.ensures in
+pub returns-in_err-look : goal.returns-in_err-look
+returns-in_err-look g c =
+    let p = err_from_is_err_and c.from_residual.result c.from_residual.ensures.1 in
+    let x = c.in_err-look.ensures in
     let i = c.loop-j.invariant in
     let meaning = g.D.Device.meaning in
     let a = c.args.below.now in
@@ -23,16 +23,16 @@ returns-in-err-look g c =
     let lt : j < length ts = c.loop-j-test.true in
     record {
       agrees = λ h. x.agrees (i.0 h);
-      makes = λ h t. rw (p.1, p.2) (and_then meaning [] [] (Err c.in-err-look.field-0.0) a d e (i.1 h t) (x.makes (i.0 h) (made_still meaning [] a d (i.1 h t) t)));
+      makes = λ h t. rw (p.1, p.2) (and_then meaning [] [] (Err c.in_err-look.field-0.0) a d e (i.1 h t) (x.makes (i.0 h) (made_still meaning [] a d (i.1 h t) t)));
       loaded = λ h aw. rw (p.1, p.2) (
           let l = i.2 h aw in
-          let y = x.looked (i.0 h) (subst (λ (p : ℕ). p < (meaning d).count) (sym c.body-page.ensures) (body_within ts (meaning a) c.requires aw (meaning d) j es l lt (meaning e))) in
+          let y = x.looked (i.0 h) (subst (λ (p : ℕ). p < (meaning d).count) (sym c.body_page.ensures) (body_within ts (meaning a) c.requires aw (meaning d) j es l lt (meaning e))) in
           (y.0, load_lost ts (meaning a) c.requires aw (meaning d) j es l lt (meaning e) y.1));
     }
 
 pub returns-then-not-branch : goal.returns-then-not-branch
 returns-then-not-branch g c =
-    let x = c.in-ok-look.ensures in
+    let x = c.in_ok-look.ensures in
     let i = c.loop-j.invariant in
     let meaning = g.D.Device.meaning in
     let a = c.args.below.now in
@@ -48,13 +48,13 @@ returns-then-not-branch g c =
       loaded = λ h aw.
           let l = i.2 h aw in
           load_broken ts (meaning a) c.requires aw (meaning d) j es l lt (meaning e)
-          (subst (λ (p : ℕ). Looked (meaning d) p (Ok false) c.look.new.buf (meaning e)) c.body-page.ensures (subst (λ (b : Bool). Looked (meaning d) c.body-page.result (Ok b) c.look.new.buf (meaning e)) c.if-not-branch.true
-          (x.looked (i.0 h) (subst (λ (p : ℕ). p < (meaning d).count) (sym c.body-page.ensures) (body_within ts (meaning a) c.requires aw (meaning d) j es l lt (meaning e))))));
+          (subst (λ (p : ℕ). Looked (meaning d) p (Ok false) c.look.new.buf (meaning e)) c.body_page.ensures (subst (λ (b : Bool). Looked (meaning d) c.body_page.result (Ok b) c.look.new.buf (meaning e)) c.if-not-branch.true
+          (x.looked (i.0 h) (subst (λ (p : ℕ). p < (meaning d).count) (sym c.body_page.ensures) (body_within ts (meaning a) c.requires aw (meaning d) j es l lt (meaning e))))));
     }
 
 pub loop-j-preserved : goal.loop-j-preserved
 loop-j-preserved g c =
-    let x = c.in-ok-look.ensures in
+    let x = c.in_ok-look.ensures in
     let i = c.loop-j.invariant in
     let meaning = g.D.Device.meaning in
     let a = c.args.below.now in
@@ -71,8 +71,8 @@ loop-j-preserved g c =
       λ h aw.
           let l = i.2 h aw in
           loaded_more ts (meaning a) c.requires aw (meaning d) j es l lt (meaning e) (record { page = get_or ts j 0; bytes = c.look.new.buf }) len refl size
-          (subst (λ (p : ℕ). Looked (meaning d) p (Ok true) c.look.new.buf (meaning e)) c.body-page.ensures (subst (λ (b : Bool). Looked (meaning d) c.body-page.result (Ok b) c.look.new.buf (meaning e)) c.if-not-branch.false
-          (x.looked (i.0 h) (subst (λ (p : ℕ). p < (meaning d).count) (sym c.body-page.ensures) (body_within ts (meaning a) c.requires aw (meaning d) j es l lt (meaning e)))))),
+          (subst (λ (p : ℕ). Looked (meaning d) p (Ok true) c.look.new.buf (meaning e)) c.body_page.ensures (subst (λ (b : Bool). Looked (meaning d) c.body_page.result (Ok b) c.look.new.buf (meaning e)) c.if-not-branch.false
+          (x.looked (i.0 h) (subst (λ (p : ℕ). p < (meaning d).count) (sym c.body_page.ensures) (body_within ts (meaning a) c.requires aw (meaning d) j es l lt (meaning e)))))),
     )
 
 pub returns : goal.returns

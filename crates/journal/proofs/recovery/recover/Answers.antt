@@ -25,13 +25,13 @@ awake m n r pos = record { running = r.ran.still; room = enough n pos }
 same_reader : (m n : Meaning) (k count : ℕ) → RestartDone m n → k ≡ n.count → count ≡ above k → targets count ≡ reader m
 same_reader m n k count r e f = ap targets (f ∙ ap above (e ∙ r.ran.count))
 
-pub returns-in-err-restart : goal.returns-in-err-restart
-returns-in-err-restart g c =
-    let p = err_from_is_err_and c.from-residual.result c.from-residual.ensures.1 in
-    let does = c.in-err-restart.ensures.does in
+pub returns-in_err-restart : goal.returns-in_err-restart
+returns-in_err-restart g c =
+    let p = err_from_is_err_and c.from_residual.result c.from_residual.ensures.1 in
+    let does = c.in_err-restart.ensures.does in
     let meaning = g.D.Device.meaning in
     let m = meaning c.args.below.now in
-    let f = c.in-err-restart.field-0.0 in
+    let f = c.in_err-restart.field-0.0 in
     record {
       agrees = λ h. (does h).agrees;
       makes = λ h. rw (p.1, p.2) (Err f, (c.restart.new.self, (does h).means, (refl, refl)));
@@ -40,27 +40,27 @@ returns-in-err-restart g c =
 
 pub returns-then-count-eq0 : goal.returns-then-count-eq0
 returns-then-count-eq0 g c =
-    let does = c.in-ok-restart.ensures.does in
+    let does = c.in_ok-restart.ensures.does in
     let meaning = g.D.Device.meaning in
     let x = c.restart.new.self in
-    let none : above (meaning x).count ≡ 0 = sym (ap above c.page-count.ensures) ∙ sym c.pages-above-count.ensures ∙ c.if-count-eq0.true in
+    let none : above (meaning x).count ≡ 0 = sym (ap above c.page_count.ensures) ∙ sym c.pages_above-count.ensures ∙ c.if-count-eq0.true in
     record {
       agrees = λ h. (does h).agrees;
       makes = λ h. (Ok tt, (x, (does h).means, when_true (eqb (above (meaning x).count) 0) _ _ (eq-eqb _ _ none) (refl, refl)));
       recovered = λ h. none_above (meaning c.args.below.now) (meaning x) (does h).means none;
     }
 
-pub returns-in-err-load-group : goal.returns-in-err-load-group
-returns-in-err-load-group g c =
-    let p = err_from_is_err_and c.from-residual-in-err-load-group.result c.from-residual-in-err-load-group.ensures.1 in
-    let does = c.in-ok-restart.ensures.does in
-    let q = c.in-err-load-group.ensures in
+pub returns-in_err-load_group : goal.returns-in_err-load_group
+returns-in_err-load_group g c =
+    let p = err_from_is_err_and c.from_residual-in_err-load_group.result c.from_residual-in_err-load_group.ensures.1 in
+    let does = c.in_ok-restart.ensures.does in
+    let q = c.in_err-load_group.ensures in
     let meaning = g.D.Device.meaning in
     let m = meaning c.args.below.now in
     let x = c.restart.new.self in
-    let o = c.load-group.new.below in
-    let f = c.in-err-load-group.field-0.0 in
-    let pos : above (meaning x).count ≢ 0 = λ z. c.if-count-eq0.false (c.pages-above-count.ensures ∙ ap above c.page-count.ensures ∙ z) in
+    let o = c.load_group.new.below in
+    let f = c.in_err-load_group.field-0.0 in
+    let pos : above (meaning x).count ≢ 0 = λ z. c.if-count-eq0.false (c.pages_above-count.ensures ∙ ap above c.page_count.ensures ∙ z) in
     record {
       agrees = λ h. q.agrees (does h).agrees;
       makes = λ h. rw (p.1, p.2) (
@@ -77,24 +77,24 @@ returns-in-err-load-group g c =
 
 pub returns-then-branch : goal.returns-then-branch
 returns-then-branch g c =
-    let does = c.in-ok-restart.ensures.does in
-    let q = c.in-ok-load-group.ensures in
+    let does = c.in_ok-restart.ensures.does in
+    let q = c.in_ok-load_group.ensures in
     let z = c.finish.ensures in
     let agrees = g.D.Device.agrees in
     let meaning = g.D.Device.meaning in
     let a = c.args.below.now in
     let x = c.restart.new.self in
-    let o = c.load-group.new.below in
+    let o = c.load_group.new.below in
     let e = c.finish.new.below in
-    let work = c.load-group.new.into in
-    let items = c.as-slice.ensures.items in
-    let es = c.as-slice.result.now in
+    let work = c.load_group.new.into in
+    let items = c.as_slice.ensures.items in
+    let es = c.as_slice.result.now in
     let r = c.finish.result in
-    let sz : length (waiting work) ≡ min work.len 64 = sym (ap length items) ∙ c.as-slice.ensures.size in
-    let pos : above (meaning x).count ≢ 0 = λ z. c.if-count-eq0.false (c.pages-above-count.ensures ∙ ap above c.page-count.ensures ∙ z) in
+    let sz : length (waiting work) ≡ min work.len 64 = sym (ap length items) ∙ c.as_slice.ensures.size in
+    let pos : above (meaning x).count ≢ 0 = λ z. c.if-count-eq0.false (c.pages_above-count.ensures ∙ ap above c.page_count.ensures ∙ z) in
     let found : (h : agrees a) → FoundGroup (reader (meaning a)) (meaning x) work (meaning o) = λ h.
-    subst (λ (T : State → List ℕ). FoundGroup T (meaning x) work (meaning o)) (same_reader (meaning a) (meaning x) c.page-count.result c.pages-above-count.result (does h).means c.page-count.ensures c.pages-above-count.ensures)
-    (subst (λ (b : Bool). Found (targets c.pages-above-count.result) (meaning x) (Ok b) work (meaning o)) c.if-branch.true (q.found (does h).agrees (awake (meaning a) (meaning x) (does h).means pos))) in
+    subst (λ (T : State → List ℕ). FoundGroup T (meaning x) work (meaning o)) (same_reader (meaning a) (meaning x) c.page_count.result c.pages_above-count.result (does h).means c.page_count.ensures c.pages_above-count.ensures)
+    (subst (λ (b : Bool). Found (targets c.pages_above-count.result) (meaning x) (Ok b) work (meaning o)) c.if-branch.true (q.found (does h).agrees (awake (meaning a) (meaning x) (does h).means pos))) in
     let ready : (h : agrees a) → LayReady (reader (meaning a)) es (home (meaning o)) (meaning o) = λ h.
     subst (λ (l : List Entry). LayReady (reader (meaning a)) l (home (meaning o)) (meaning o)) (sym items)
     (lay_ready (meaning a) (meaning x) (meaning o) (does h).means (g.D.Device.sound o (q.agrees (does h).agrees)) pos work sz (found h)) in
@@ -122,21 +122,21 @@ returns-then-branch g c =
 
 pub returns : goal.returns
 returns g c =
-    let does = c.in-ok-restart.ensures.does in
-    let q = c.in-ok-load-group.ensures in
+    let does = c.in_ok-restart.ensures.does in
+    let q = c.in_ok-load_group.ensures in
     let z = c.clear.ensures in
     let agrees = g.D.Device.agrees in
     let meaning = g.D.Device.meaning in
     let a = c.args.below.now in
     let x = c.restart.new.self in
-    let o = c.load-group.new.below in
+    let o = c.load_group.new.below in
     let e = c.clear.new.below in
-    let work = c.load-group.new.into in
+    let work = c.load_group.new.into in
     let r = c.clear.result in
-    let pos : above (meaning x).count ≢ 0 = λ z. c.if-count-eq0.false (c.pages-above-count.ensures ∙ ap above c.page-count.ensures ∙ z) in
+    let pos : above (meaning x).count ≢ 0 = λ z. c.if-count-eq0.false (c.pages_above-count.ensures ∙ ap above c.page_count.ensures ∙ z) in
     let found : (h : agrees a) → NoGroup (reader (meaning a)) (meaning x).shown × Same (meaning x) (meaning o) = λ h.
-    subst (λ (T : State → List ℕ). Found T (meaning x) (Ok false) work (meaning o)) (same_reader (meaning a) (meaning x) c.page-count.result c.pages-above-count.result (does h).means c.page-count.ensures c.pages-above-count.ensures)
-    (subst (λ (b : Bool). Found (targets c.pages-above-count.result) (meaning x) (Ok b) work (meaning o)) c.if-branch.false (q.found (does h).agrees (awake (meaning a) (meaning x) (does h).means pos))) in
+    subst (λ (T : State → List ℕ). Found T (meaning x) (Ok false) work (meaning o)) (same_reader (meaning a) (meaning x) c.page_count.result c.pages_above-count.result (does h).means c.page_count.ensures c.pages_above-count.ensures)
+    (subst (λ (b : Bool). Found (targets c.pages_above-count.result) (meaning x) (Ok b) work (meaning o)) c.if-branch.false (q.found (does h).agrees (awake (meaning a) (meaning x) (does h).means pos))) in
     record {
       agrees = λ h. z.agrees (q.agrees (does h).agrees);
       makes = λ h. (

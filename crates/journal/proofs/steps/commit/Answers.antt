@@ -6,62 +6,62 @@ use Rattle.journal.proofs.Sent.{stopped, and_then, made_still}
 use Rattle.journal.proofs.Finish.{bodies_ready, bodies_lost, naming_ready, naming_lost, lay_ready, committed as all_committed}
 use Rattle.journal.proofs.steps.commit.Goals as goal
 
-pub returns-in-err-settle-entries : goal.returns-in-err-settle-entries
-returns-in-err-settle-entries g c =
-    let p = err_from_is_err_and c.from-residual.result c.from-residual.ensures.1 in
-    let s = c.in-err-settle-entries.ensures in
+pub returns-in_err-settle_entries : goal.returns-in_err-settle_entries
+returns-in_err-settle_entries g c =
+    let p = err_from_is_err_and c.from_residual.result c.from_residual.ensures.1 in
+    let s = c.in_err-settle_entries.ensures in
     let meaning = g.D.Device.meaning in
     let es = c.args.entries.now in
     let a = c.args.below.now in
-    let d = c.settle-entries.new.below in
+    let d = c.settle_entries.new.below in
     record {
       agrees = s.agrees;
-      makes = λ h t. rw (p.1, p.2) (stopped meaning (step1 es) (step2 es ++ (step3 es ++ step4)) c.in-err-settle-entries.field-0.0 a d (s.makes h t));
+      makes = λ h t. rw (p.1, p.2) (stopped meaning (step1 es) (step2 es ++ (step3 es ++ step4)) c.in_err-settle_entries.field-0.0 a d (s.makes h t));
       committed = λ h T base cr. rw (p.1, p.2) (let x = s.settled h (bodies_ready T es base (meaning a) cr) in (x.0, bodies_lost T es base (meaning a) cr (meaning d) x.1));
     }
 
-pub returns-in-err-set-header : goal.returns-in-err-set-header
-returns-in-err-set-header g c =
-    let p = err_from_is_err_and c.from-residual-in-err-set-header.result c.from-residual-in-err-set-header.ensures.1 in
-    let s = c.in-ok-settle-entries.ensures in
-    let k = c.in-err-set-header.ensures in
+pub returns-in_err-set_header : goal.returns-in_err-set_header
+returns-in_err-set_header g c =
+    let p = err_from_is_err_and c.from_residual-in_err-set_header.result c.from_residual-in_err-set_header.ensures.1 in
+    let s = c.in_ok-settle_entries.ensures in
+    let k = c.in_err-set_header.ensures in
     let meaning = g.D.Device.meaning in
     let sound = g.D.Device.sound in
     let es = c.args.entries.now in
     let a = c.args.below.now in
-    let o = c.settle-entries.new.below in
-    let e = c.set-header.new.below in
-    let f = c.in-err-set-header.field-0.0 in
+    let o = c.settle_entries.new.below in
+    let e = c.set_header.new.below in
+    let f = c.in_err-set_header.field-0.0 in
     record {
       agrees = λ h. k.agrees (s.agrees h);
       makes = λ h t. rw (p.1, p.2) (and_then meaning (step1 es) (step2 es ++ (step3 es ++ step4)) (Err f) a o e (s.makes h t)
           (stopped meaning (step2 es) (step3 es ++ step4) f o e
-          (subst (λ (b : List ℕ). Makes meaning (heading b) (Err f) o e) c.header-of.ensures (k.makes (s.agrees h) (made_still meaning (step1 es) a o (s.makes h t) t)))));
+          (subst (λ (b : List ℕ). Makes meaning (heading b) (Err f) o e) c.header_of.ensures (k.makes (s.agrees h) (made_still meaning (step1 es) a o (s.makes h t) t)))));
       committed = λ h T base cr. rw (p.1, p.2) (
           let x = s.settled h (bodies_ready T es base (meaning a) cr) in
           let y = k.set (s.agrees h) (naming_ready T es base (meaning a) cr (meaning x.0) x.2 (sound x.0 x.1) (meaning o) x.3) in (
             y.0,
             naming_lost T es base (meaning a) cr (meaning x.0) x.2 (sound x.0 x.1) (meaning o) x.3 (meaning e)
-                (subst (λ (b : List ℕ). HeadLost b (meaning o) (meaning e)) c.header-of.ensures y.1),
+                (subst (λ (b : List ℕ). HeadLost b (meaning o) (meaning e)) c.header_of.ensures y.1),
           ));
     }
 
 pub returns : goal.returns
 returns g c =
-    let s = c.in-ok-settle-entries.ensures in
-    let k = c.in-ok-set-header.ensures in
+    let s = c.in_ok-settle_entries.ensures in
+    let k = c.in_ok-set_header.ensures in
     let z = c.finish.ensures in
     let meaning = g.D.Device.meaning in
     let sound = g.D.Device.sound in
     let es = c.args.entries.now in
     let a = c.args.below.now in
-    let o = c.settle-entries.new.below in
-    let t = c.set-header.new.below in
+    let o = c.settle_entries.new.below in
+    let t = c.set_header.new.below in
     let e = c.finish.new.below in
     let r = c.finish.result in
     let one : g.D.Device.agrees a → (meaning a).runs ≡ true → Makes meaning (step1 es) (Ok tt) a o = s.makes in
     let two : g.D.Device.agrees a → (meaning a).runs ≡ true → Makes meaning (step2 es) (Ok tt) o t = λ h up.
-    subst (λ (b : List ℕ). Makes meaning (heading b) (Ok tt) o t) c.header-of.ensures (k.makes (s.agrees h) (made_still meaning (step1 es) a o (one h up) up)) in
+    subst (λ (b : List ℕ). Makes meaning (heading b) (Ok tt) o t) c.header_of.ensures (k.makes (s.agrees h) (made_still meaning (step1 es) a o (one h up) up)) in
     record {
       agrees = λ h. z.agrees (k.agrees (s.agrees h));
       makes = λ h up. and_then meaning (step1 es) (step2 es ++ (step3 es ++ step4)) r a o e (one h up)
@@ -69,7 +69,7 @@ returns g c =
           (z.makes (k.agrees (s.agrees h)) (made_still meaning (step2 es) o t (two h up) (made_still meaning (step1 es) a o (one h up) up))));
       committed = λ h T base cr.
           let x = s.settled h (bodies_ready T es base (meaning a) cr) in
-          let y = subst (λ (b : List ℕ). HeadSet g.D.Device.agrees meaning b o (Ok tt) t) c.header-of.ensures
+          let y = subst (λ (b : List ℕ). HeadSet g.D.Device.agrees meaning b o (Ok tt) t) c.header_of.ensures
           (k.set (s.agrees h) (naming_ready T es base (meaning a) cr (meaning x.0) x.2 (sound x.0 x.1) (meaning o) x.3)) in
           all_committed T es base (meaning a) cr (meaning x.0) x.2 (sound x.0 x.1) (meaning o) x.3 (meaning y.0) y.2 (sound y.0 y.1) (meaning t) y.3 (meaning e) r
           (z.finished (k.agrees (s.agrees h)) T base

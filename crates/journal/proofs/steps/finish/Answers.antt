@@ -4,29 +4,29 @@ use Rattle.journal.proofs.Sent.{stopped, and_then, made_still}
 use Rattle.journal.proofs.Finish.{lay_lost, clear_ready, laid_and_cleared}
 use Rattle.journal.proofs.steps.finish.Goals as goal
 
-pub returns-in-err-settle-entries : goal.returns-in-err-settle-entries
-returns-in-err-settle-entries g c =
-    let p = err_from_is_err_and c.from-residual.result c.from-residual.ensures.1 in
-    let s = c.in-err-settle-entries.ensures in
+pub returns-in_err-settle_entries : goal.returns-in_err-settle_entries
+returns-in_err-settle_entries g c =
+    let p = err_from_is_err_and c.from_residual.result c.from_residual.ensures.1 in
+    let s = c.in_err-settle_entries.ensures in
     let meaning = g.D.Device.meaning in
     let es = c.args.entries.now in
     let a = c.args.below.now in
-    let d = c.settle-entries.new.below in
+    let d = c.settle_entries.new.below in
     record {
       agrees = s.agrees;
-      makes = λ h t. rw (p.1, p.2) (stopped meaning (step3 es) step4 c.in-err-settle-entries.field-0.0 a d (s.makes h t));
+      makes = λ h t. rw (p.1, p.2) (stopped meaning (step3 es) step4 c.in_err-settle_entries.field-0.0 a d (s.makes h t));
       finished = λ h T base lr. rw (p.1, p.2) (let x = s.settled h lr.ready in (x.0, lay_lost T es base (meaning a) lr (meaning d) x.1));
     }
 
 pub returns : goal.returns
 returns g c =
-    let s = c.in-ok-settle-entries.ensures in
+    let s = c.in_ok-settle_entries.ensures in
     let k = c.clear.ensures in
     let meaning = g.D.Device.meaning in
     let sound = g.D.Device.sound in
     let es = c.args.entries.now in
     let a = c.args.below.now in
-    let o = c.settle-entries.new.below in
+    let o = c.settle_entries.new.below in
     let e = c.clear.new.below in
     record {
       agrees = λ h. k.agrees (s.agrees h);

@@ -5,15 +5,15 @@ use Rattle.journal.proofs.Sent.{made, stopped, and_then}
 use Rattle.journal.proofs.Written.{head_err, head_set}
 use Rattle.journal.proofs.steps.set_header.Goals as goal
 
-pub returns-in-err-write : goal.returns-in-err-write
-returns-in-err-write g c =
-    let p = err_from_is_err_and c.from-residual.result c.from-residual.ensures.1 in
-    let does = c.in-err-write.ensures.does in
+pub returns-in_err-write : goal.returns-in_err-write
+returns-in_err-write g c =
+    let p = err_from_is_err_and c.from_residual.result c.from_residual.ensures.1 in
+    let does = c.in_err-write.ensures.does in
     let meaning = g.D.Device.meaning in
     let a = c.args.below.now in
     let d = c.write.new.self in
     let buf = c.args.page.now in
-    let f = c.in-err-write.field-0.0 in
+    let f = c.in_err-write.field-0.0 in
     let len : length buf ≡ 252 = search rules in
     record {
       agrees = λ h. (does h).agrees;
@@ -23,7 +23,7 @@ returns-in-err-write g c =
 
 pub returns : goal.returns
 returns g c =
-    let does = c.in-ok-write.ensures.does in
+    let does = c.in_ok-write.ensures.does in
     let syncing = c.sync.ensures.does in
     let meaning = g.D.Device.meaning in
     let a = c.args.below.now in

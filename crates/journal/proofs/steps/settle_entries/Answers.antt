@@ -6,25 +6,25 @@ use Rattle.journal.proofs.Sent.{made, stopped, and_then, made_still}
 use Rattle.journal.proofs.Written.{entries_settled}
 use Rattle.journal.proofs.steps.settle_entries.Goals as goal
 
-pub returns-in-err-write-entries : goal.returns-in-err-write-entries
-returns-in-err-write-entries g c =
-    let p = err_from_is_err_and c.from-residual.result c.from-residual.ensures.1 in
-    let w = c.in-err-write-entries.ensures in
+pub returns-in_err-write_entries : goal.returns-in_err-write_entries
+returns-in_err-write_entries g c =
+    let p = err_from_is_err_and c.from_residual.result c.from_residual.ensures.1 in
+    let w = c.in_err-write_entries.ensures in
     let es = c.args.entries.now in
-    let f = c.in-err-write-entries.field-0.0 in
+    let f = c.in_err-write_entries.field-0.0 in
     record {
       agrees = w.agrees;
-      makes = λ h t. rw (p.1, p.2) (stopped g.D.Device.meaning (placed c.args.home 0 es) (syncs ∷ []) f c.args.below.now c.write-entries.new.below (w.makes h t));
+      makes = λ h t. rw (p.1, p.2) (stopped g.D.Device.meaning (placed c.args.home 0 es) (syncs ∷ []) f c.args.below.now c.write_entries.new.below (w.makes h t));
       settled = λ h r. rw (p.1, p.2) (w.wrote h r);
     }
 
 pub returns : goal.returns
 returns g c =
-    let w = c.in-ok-write-entries.ensures in
+    let w = c.in_ok-write_entries.ensures in
     let syncing = c.sync.ensures.does in
     let meaning = g.D.Device.meaning in
     let a = c.args.below.now in
-    let d = c.write-entries.new.below in
+    let d = c.write_entries.new.below in
     let e = c.sync.new.self in
     let plan = placed c.args.home 0 c.args.entries.now in
     record {

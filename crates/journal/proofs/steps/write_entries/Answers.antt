@@ -14,10 +14,10 @@ use Rattle.journal.proofs.steps.write_entries.Goals as goal
 pub loop-j-init : goal.loop-j-init
 loop-j-init g c = (λ h. h, λ h t. made_none g.D.Device.meaning c.args.below.now, λ h r. wrote_none c.args.home c.args.entries.now (g.D.Device.meaning c.args.below.now) r)
 
-pub returns-in-err-write : goal.returns-in-err-write
-returns-in-err-write g c =
-    let p = err_from_is_err_and c.from-residual.result c.from-residual.ensures.1 in
-    let does = c.in-err-write.ensures.does in
+pub returns-in_err-write : goal.returns-in_err-write
+returns-in_err-write g c =
+    let p = err_from_is_err_and c.from_residual.result c.from_residual.ensures.1 in
+    let does = c.in_err-write.ensures.does in
     let i = c.loop-j.invariant in
     let home = c.args.home in
     let es = c.args.entries.now in
@@ -25,7 +25,7 @@ returns-in-err-write g c =
     let meaning = g.D.Device.meaning in
     let d = c.loop-j.below in
     let e = c.write.new.self in
-    let f = c.in-err-write.field-0.0 in
+    let f = c.in_err-write.field-0.0 in
     let lt : j < length es = c.loop-j-test.true in
     let w : g.D.Device.agrees c.args.below.now → Write (meaning d) (spot home es j) (get_or es j blank).bytes (Err f) (meaning e) = λ h.
     subst (λ (x : ℕ). Write (meaning d) x (get_or es j blank).bytes (Err f) (meaning e)) c.place.ensures (does (i.0 h)).means in
@@ -41,7 +41,7 @@ returns-in-err-write g c =
 
 pub loop-j-preserved : goal.loop-j-preserved
 loop-j-preserved g c =
-    let does = c.in-ok-write.ensures.does in
+    let does = c.in_ok-write.ensures.does in
     let i = c.loop-j.invariant in
     let home = c.args.home in
     let es = c.args.entries.now in

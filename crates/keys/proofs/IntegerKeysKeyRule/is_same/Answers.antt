@@ -1,7 +1,5 @@
-use Rattle.std.proofs.Common.{rules}
-use Rattle.std.proofs.lemmas.Slice.Eq.{slice_eq-Decides, bytes_eq-Decides}
+use Rattle.keys.specs.Compared.{same_when}
 use Rattle.keys.proofs.IntegerKeysKeyRule.is_same.Goals as goal
-use Rattle.std.proofs.lemmas.Bool.Decides.{Decides-eqb}
 
 pub returns : goal.returns
-returns c = let d = slice_eq-Decides Decides-eqb _ _ _ c.same-bytes.ensures in search (rules, bytes_eq-Decides)
+returns c = same_when _ _ _ c.same_bytes.ensures

@@ -16,7 +16,7 @@ returns-then-len-bytes c = record {
 
 pub returns : goal.returns
 returns c = record {
-  bytes = remove_bytes c.bucket-page.result c.args.depth c.args.bytes.now _ _ c.args.start c.args.len refl refl (omega arith) c.bucket-page.ensures;
+  bytes = remove_bytes c.bucket_page.result c.args.depth c.args.bytes.now _ _ c.args.start c.args.len refl refl (omega arith) c.bucket_page.ensures;
   records = λ before x after e short es el.
-      remove_made c.bucket-page.result c.args.depth c.args.bytes.now _ _ c.args.start c.args.len before x after refl refl c.bucket-page.ensures e short es el;
+      remove_made c.bucket_page.result c.args.depth c.args.bytes.now _ _ c.args.start c.args.len before x after refl refl c.bucket_page.ensures e short es el;
 }

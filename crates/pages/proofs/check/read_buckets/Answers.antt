@@ -19,26 +19,26 @@ loop-i-init g c = (
   λ b a. (kept_none g.D.Device.agrees g.D.Device.meaning g.D.GroupDevice.grouped 0 c.args.device.now a, λ n f w. ((λ k lt. absurd (omega (arith, lt))), λ k lt. absurd (omega (arith, lt)))),
 )
 
-pub returns-in-err-bucket : goal.returns-in-err-bucket
-returns-in-err-bucket g c =
-    let p = err_from_is_err_and c.from-residual.result c.from-residual.ensures.1 in
+pub returns-in_err-bucket : goal.returns-in_err-bucket
+returns-in_err-bucket g c =
+    let p = err_from_is_err_and c.from_residual.result c.from_residual.ensures.1 in
     rw (p.1, p.2) (λ b a.
     let i = c.loop-i.invariant.3 b a in
     let wd : (1 * 2 ^ c.args.depth) % 2 ^ 64 ≡ 2 ^ c.args.depth = one_shl c.args.depth 64 (omega (arith, c.requires.deep)) in
     let inside : c.loop-i.i < 2 ^ c.args.depth = omega (arith, wd) in
     let lt : c.from.result < (g.D.Device.meaning c.loop-i.device).count = omega (arith, b c.loop-i.i inside, c.from.ensures, i.0.same.count) in
-    stopped_on g.D.Device.agrees g.D.Device.meaning g.D.GroupDevice.grouped c.loop-i.i 1 (2 ^ c.args.depth) c.args.device.now c.loop-i.device c.read-named.new.device _ (omega arith) i (c.in-err-bucket.ensures lt i.0.ready))
+    stopped_on g.D.Device.agrees g.D.Device.meaning g.D.GroupDevice.grouped c.loop-i.i 1 (2 ^ c.args.depth) c.args.device.now c.loop-i.device c.read_named.new.device _ (omega arith) i (c.in_err-bucket.ensures lt i.0.ready))
 
-pub returns-in-default : goal.returns-in-default
-returns-in-default g c = λ b a.
+pub returns-in_default : goal.returns-in_default
+returns-in_default g c = λ b a.
     let i = c.loop-i.invariant.3 b a in
     let wd : (1 * 2 ^ c.args.depth) % 2 ^ 64 ≡ 2 ^ c.args.depth = one_shl c.args.depth 64 (omega (arith, c.requires.deep)) in
     let inside : c.loop-i.i < 2 ^ c.args.depth = omega (arith, wd) in
     let lt : c.from.result < (g.D.Device.meaning c.loop-i.device).count = omega (arith, b c.loop-i.i inside, c.from.ensures, i.0.same.count) in
-    held_on g.D.Device.agrees g.D.Device.meaning g.D.GroupDevice.grouped c.loop-i.i 1 (2 ^ c.args.depth) c.args.device.now c.loop-i.device c.read-named.new.device (omega arith) i (c.in-ok-bucket.ensures lt i.0.ready)
+    held_on g.D.Device.agrees g.D.Device.meaning g.D.GroupDevice.grouped c.loop-i.i 1 (2 ^ c.args.depth) c.args.device.now c.loop-i.device c.read_named.new.device (omega arith) i (c.in_ok-bucket.ensures lt i.0.ready)
     (λ n f x y.
     not_bucket g.K.KeyRule.rule (λ k. shows (f (at c.args.entries.now k))) c.args.depth c.loop-i.i (2 ^ c.args.depth) inside
-    (λ d rs q z. MatchOption-at_none _ _ c.in-default.is y d rs (subst (λ k. BucketIs (shows (f k)) d rs) (sym c.from.ensures) q) z))
+    (λ d rs q z. MatchOption-at_none _ _ c.in_default.is y d rs (subst (λ k. BucketIs (shows (f k)) d rs) (sym c.from.ensures) q) z))
 
 pub loop-i-preserved : goal.loop-i-preserved
 loop-i-preserved g c = (
@@ -54,7 +54,7 @@ loop-i-preserved g c = (
       let in-d : c.loop-i.i < length c.loop-i.depths = omega (arith, small, inside, c.loop-i.invariant.0) in
       let in-s : c.loop-i.i < length c.loop-i.sizes = omega (arith, small, inside, c.loop-i.invariant.1) in
       let in_c : c.loop-i.i < length c.loop-i.counts = omega (arith, small, inside, c.loop-i.invariant.2) in
-      held_on g.D.Device.agrees g.D.Device.meaning g.D.GroupDevice.grouped c.loop-i.i 1 (c.loop-i.i + 1) c.args.device.now c.loop-i.device c.read-named.new.device (omega arith) i (c.in-ok-bucket.ensures lt i.0.ready)
+      held_on g.D.Device.agrees g.D.Device.meaning g.D.GroupDevice.grouped c.loop-i.i 1 (c.loop-i.i + 1) c.args.device.now c.loop-i.device c.read_named.new.device (omega arith) i (c.in_ok-bucket.ensures lt i.0.ready)
       (λ n f x y.
       let P : ℕ → List ℕ = λ k. shows (f (at c.args.entries.now k)) in
       let p : Paged g.K.KeyRule.rule (P c.loop-i.i) c.args.depth c.loop-i.i c.in-Some.found =

@@ -7,4 +7,4 @@ pub returns : goal.returns
 returns g c =
     let R = g.K.KeyRule.rule in
     let law = g.met.K.KeyRule.lawful in
-    record { first = c.first-bucket.ensures; from = formed_from R law; to = formed_to R law; empty = empty_formed R; page = page_written; entry = entry_written }
+    record { first = c.first_bucket.ensures; from = formed_from R law; to = formed_to R law; empty = empty_formed R; page = page_written; entry = entry_written }

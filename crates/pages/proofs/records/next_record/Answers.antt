@@ -2,16 +2,16 @@ use Rattle.std.proofs.Common.{arith, ltb-true}
 use Rattle.pages.proofs.Codec.{reads, record_starts}
 use Rattle.pages.proofs.records.next_record.Goals as goal
 
-pub returns-in-default : goal.returns-in-default
-returns-in-default c = λ x rest e. let s = record_starts c.args.bytes.now x rest e in omega (arith, ltb-true, s.0)
+pub returns-in_default : goal.returns-in_default
+returns-in_default c = λ x rest e. let s = record_starts c.args.bytes.now x rest e in omega (arith, ltb-true, s.0)
 
-pub returns-then-not-has-record : goal.returns-then-not-has-record
-returns-then-not-has-record c = λ x rest e.
+pub returns-then-not-has_record : goal.returns-then-not-has_record
+returns-then-not-has_record c = λ x rest e.
     let s = record_starts c.args.bytes.now x rest e in
-    c.if-not-has-record.ensures (omega (arith, s.1, s.2, c.from.ensures, c.from-2.ensures), omega (arith, s.1, s.3, c.from.ensures, c.from-2.ensures))
+    c.if-not-has_record.ensures (omega (arith, s.1, s.2, c.from.ensures, c.from-2.ensures), omega (arith, s.1, s.3, c.from.ensures, c.from-2.ensures))
 
 pub returns : goal.returns
 returns c =
-    let h = c.if-not-has-record.ensures in
-    reads c.args.bytes.now _ c.from-key-len.result c.from-be-bytes-day.result (λ i. omega (arith, c.type-inv.bytes i)) (omega arith) (omega (arith, c.from.ensures, c.from-2.ensures)) c.from-key-len.ensures c.from-be-bytes-day.ensures
-    (omega (arith, h.0, c.from-key-len.ensures)) h.1
+    let h = c.if-not-has_record.ensures in
+    reads c.args.bytes.now _ c.from-key_len.result c.from_be_bytes-day.result (λ i. omega (arith, c.type_inv.bytes i)) (omega arith) (omega (arith, c.from.ensures, c.from-2.ensures)) c.from-key_len.ensures c.from_be_bytes-day.ensures
+    (omega (arith, h.0, c.from-key_len.ensures)) h.1

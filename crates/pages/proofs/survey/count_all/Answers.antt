@@ -17,7 +17,7 @@ loop-i-preserved c =
     elim c.if-i-run-eq0.branch [
       | then-i-run-eq0 w ↦
           let q = counted_first D C c.args.depth i (ap (λ v. i % v) (sym z) ∙ w.if-i-run-eq0.true) in
-          (omega (arith, q, w.n-is, w.from-n.ensures, c.loop-i.invariant.0), omega (arith, w.n-is, w.from-n.ensures, c.type-inv.counts i, c.loop-i.invariant.1))
+          (omega (arith, q, w.n-is, w.from-n.ensures, c.loop-i.invariant.0), omega (arith, w.n-is, w.from-n.ensures, c.type_inv.counts i, c.loop-i.invariant.1))
       | else-i-run-eq0 w ↦
           let q = counted_other D C c.args.depth i (λ y. w.if-i-run-eq0.false (ap (λ v. i % v) z ∙ y)) in
           (omega (arith, q, w.n-is, c.loop-i.invariant.0), omega (arith, w.n-is, c.loop-i.invariant.1))

@@ -7,12 +7,12 @@ use Rattle.pile.proofs.CacheArmed.arm_disk.Goals as goal
 pub returns : goal.returns
 returns g c =
     let d = c.args.self.now in
-    let v = c.below-mut.ensures.value in
+    let v = c.below_mut.ensures.value in
     let m = g.D.Device.meaning d.below in
-    let n = g.D.Device.meaning c.arm-disk.new.self in
-    let s : Same m n = subst (λ x. Same (g.D.Device.meaning x) n) v c.arm-disk.ensures.same in
+    let n = g.D.Device.meaning c.arm_disk.new.self in
+    let s : Same m n = subst (λ x. Same (g.D.Device.meaning x) n) v c.arm_disk.ensures.same in
     record {
-      arms = subst (λ x. Arms c.args.n c.args.letters.now c.args.t (g.D.Armed.bottom x) c.arm-disk.result (g.D.Armed.bottom c.arm-disk.new.self)) v c.arm-disk.ensures.arms;
-      agrees = λ h. (c.arm-disk.ensures.agrees (subst g.D.Device.agrees (sym v) h.0), same_agrees d.memory d.memory m n h.1 refl s);
+      arms = subst (λ x. Arms c.args.n c.args.letters.now c.args.t (g.D.Armed.bottom x) c.arm_disk.result (g.D.Armed.bottom c.arm_disk.new.self)) v c.arm_disk.ensures.arms;
+      agrees = λ h. (c.arm_disk.ensures.agrees (subst g.D.Device.agrees (sym v) h.0), same_agrees d.memory d.memory m n h.1 refl s);
       same = under_same d.memory.up d.memory.up m n refl s;
     }

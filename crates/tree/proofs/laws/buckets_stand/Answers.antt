@@ -6,7 +6,7 @@ returns g c =
     let R = g.K.KeyRule.rule in
     let law = g.met.K.KeyRule.lawful in
     record {
-      bits = c.bucket-bits.ensures;
+      bits = c.bucket_bits.ensures;
       one = one_bucket R;
       named = names R;
       listed = listed R;

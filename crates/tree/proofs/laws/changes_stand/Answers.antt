@@ -6,7 +6,7 @@ returns g c =
     let R = g.K.KeyRule.rule in
     let law = g.met.K.KeyRule.lawful in
     record {
-      most = c.bucket-bits.ensures;
+      most = c.bucket_bits.ensures;
       still = still R;
       only = only R law;
       along = all R law;

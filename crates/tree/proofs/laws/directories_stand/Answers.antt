@@ -6,7 +6,7 @@ returns g c =
     let R = g.K.KeyRule.rule in
     let law = g.met.K.KeyRule.lawful in
     record {
-      entries = c.directory-entries.ensures;
+      entries = c.directory_entries.ensures;
       siblings = siblings R;
       recovers = recovers R;
       parted = parted R;

@@ -6,7 +6,7 @@ returns g c =
     let R = g.K.KeyRule.rule in
     let law = g.met.K.KeyRule.lawful in
     record {
-      room = c.bucket-room.ensures;
+      room = c.bucket_room.ensures;
       splits = splits R;
       falls = falls R;
     }

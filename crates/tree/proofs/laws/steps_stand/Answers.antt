@@ -6,7 +6,7 @@ returns g c =
     let R = g.K.KeyRule.rule in
     let law = g.met.K.KeyRule.lawful in
     record {
-      most = c.buckets-written.ensures;
+      most = c.buckets_written.ensures;
       split = split_holds R law;
       merged = merge_holds R law;
       tells = tells R law;

@@ -3,22 +3,22 @@ use Rattle.device.specs.Calls.{reads}
 use Rattle.cache.proofs.Passed.{group_passed, group_refused_read, group_kept_read, same_still, absent_still}
 use Rattle.cache.proofs.cache.CacheGroupDevice.read.Goals as goal
 
-pub returns-in-err-gate : goal.returns-in-err-gate
-returns-in-err-gate g c =
-    let q = err_from_is_err_and c.from-residual.result c.from-residual.ensures.1 in
-    let p = group_refused_read g.D.Device.agrees g.D.Device.meaning c.args.self.now c.page-count.result c.args.page c.args.buf.now c.page-count.ensures c.in-err-gate.field-0.0 c.in-err-gate.ensures g.D.GroupDevice.grouped in
+pub returns-in_err-gate : goal.returns-in_err-gate
+returns-in_err-gate g c =
+    let q = err_from_is_err_and c.from_residual.result c.from_residual.ensures.1 in
+    let p = group_refused_read g.D.Device.agrees g.D.Device.meaning c.args.self.now c.page_count.result c.args.page c.args.buf.now c.page_count.ensures c.in_err-gate.field-0.0 c.in_err-gate.ensures g.D.GroupDevice.grouped in
     rw (q.1, q.2) (record { does = p.0; calls = p.1; kept = p.2; still = same_still g.D.Device.agrees g.D.Device.meaning c.args.self.now c.args.page })
 
-pub returns-then-copy-kept : goal.returns-then-copy-kept
-returns-then-copy-kept g c =
-    let there = c.copy-kept.ensures.there c.if-copy-kept.true in
-    let gate = c.in-ok-gate.ensures in
-    let p = group_kept_read g.D.Device.agrees g.D.Device.meaning c.args.self.now c.page-count.result c.args.page c.args.buf.now c.page-count.ensures gate.0 gate.1 gate.2 there.0 c.copy-kept.new.buf there.1 g.D.GroupDevice.grouped in
+pub returns-then-copy_kept : goal.returns-then-copy_kept
+returns-then-copy_kept g c =
+    let there = c.copy_kept.ensures.there c.if-copy_kept.true in
+    let gate = c.in_ok-gate.ensures in
+    let p = group_kept_read g.D.Device.agrees g.D.Device.meaning c.args.self.now c.page_count.result c.args.page c.args.buf.now c.page_count.ensures gate.0 gate.1 gate.2 there.0 c.copy_kept.new.buf there.1 g.D.GroupDevice.grouped in
     record { does = p.0; calls = p.1; kept = p.2; still = same_still g.D.Device.agrees g.D.Device.meaning c.args.self.now c.args.page }
 
 pub returns : goal.returns
 returns g c =
-    let absent = c.copy-kept.ensures.absent c.if-copy-kept.false in
-    let p = group_passed g.D.Device.agrees g.D.Device.meaning c.args.self.now (reads c.args.page c.copy-kept.new.buf c.read-r.new.buf) c.read-r.result c.read-r.new.self c.note.new.self
-    c.in-ok-gate.ensures.2 c.note.ensures g.D.GroupDevice.grouped c.read-r.ensures.does in
+    let absent = c.copy_kept.ensures.absent c.if-copy_kept.false in
+    let p = group_passed g.D.Device.agrees g.D.Device.meaning c.args.self.now (reads c.args.page c.copy_kept.new.buf c.read-r.new.buf) c.read-r.result c.read-r.new.self c.note.new.self
+    c.in_ok-gate.ensures.2 c.note.ensures g.D.GroupDevice.grouped c.read-r.ensures.does in
     record { does = rw (← absent.1) p.0; calls = p.1; kept = p.2; still = absent_still g.D.Device.agrees g.D.Device.meaning c.args.self.now c.args.page _ absent.0 }

@@ -12,8 +12,8 @@ loop-i-preserved c = below_more _ _ c.loop-i.invariant c.if-e-page.false
 pub returns-then-e-page : goal.returns-then-e-page
 returns-then-e-page c =
     let t = c.loop-i-test.true in
-    let items = c.as-slice-e-items.ensures.items in
-    let size : length (waiting c.args.self.now) ≡ min c.args.self.now.len 64 = sym (ap length items) ∙ c.as-slice-e-items.ensures.size in
+    let items = c.as_slice-e-items.ensures.items in
+    let size : length (waiting c.args.self.now) ≡ min c.args.self.now.len 64 = sym (ap length items) ∙ c.as_slice-e-items.ensures.size in
     record {
       place = subst (λ (es : List Entry). Place es c.args.page c.loop-i.i) items (record { within = omega arith; before = c.loop-i.invariant; here = λ _. c.if-e-page.true });
       few = omega arith;
@@ -21,10 +21,10 @@ returns-then-e-page c =
 
 pub returns : goal.returns
 returns c =
-    let s = c.as-slice-e-items.ensures.size in
+    let s = c.as_slice-e-items.ensures.size in
     let l = c.loop-i-test.false in
     let n = c.count.ensures in
-    let items = c.as-slice-e-items.ensures.items in
+    let items = c.as_slice-e-items.ensures.items in
     let size : length (waiting c.args.self.now) ≡ min c.args.self.now.len 64 = sym (ap length items) ∙ s in
     record {
       place = subst (λ (es : List Entry). Place es c.args.page c.count.result) items

@@ -7,32 +7,32 @@ use Rattle.journal.specs.Waiting.{waiting, Copied}
 use Rattle.journal.proofs.Layer.{refused_read, held_read, home_read}
 use Rattle.journal.proofs.journal.Journal.read_page.Goals as goal
 
-pub returns-in-err-gate : goal.returns-in-err-gate
-returns-in-err-gate g c =
-    let p = err_from_is_err_and c.from-residual.result c.from-residual.ensures.1 in
-    let x = refused_read g.D.Device.agrees g.D.Device.meaning g.D.Device.sound c.args.self.now c.count.result c.args.page c.args.buf.now c.count.ensures c.in-err-gate.field-0.0 c.in-err-gate.ensures in
+pub returns-in_err-gate : goal.returns-in_err-gate
+returns-in_err-gate g c =
+    let p = err_from_is_err_and c.from_residual.result c.from_residual.ensures.1 in
+    let x = refused_read g.D.Device.agrees g.D.Device.meaning g.D.Device.sound c.args.self.now c.count.result c.args.page c.args.buf.now c.count.ensures c.in_err-gate.field-0.0 c.in_err-gate.ensures in
     record { does = rw (p.1, p.2) x.0; calls = rw (p.1, p.2) x.1; sends = rw (p.1, p.2) x.2 }
 
-pub returns-then-copy-held : goal.returns-then-copy-held
-returns-then-copy-held g c =
-    let gate = c.in-ok-gate.ensures in
+pub returns-then-copy_held : goal.returns-then-copy_held
+returns-then-copy_held g c =
+    let gate = c.in_ok-gate.ensures in
     let s = c.args.self.now in
     let w : c.args.page < above (g.D.Device.meaning s.below).count = let e = c.count.ensures in let q = gate.0 in omega arith in
-    let x = held_read g.D.Device.agrees g.D.Device.meaning g.D.Device.sound s gate.2 s.pending c.args.page c.args.buf.now w gate.1 c.copy-held.new.buf
-    (subst (λ (b : Bool). Copied (waiting s.pending) c.args.page c.args.buf.now b c.copy-held.new.buf) c.if-copy-held.true c.copy-held.ensures) in
+    let x = held_read g.D.Device.agrees g.D.Device.meaning g.D.Device.sound s gate.2 s.pending c.args.page c.args.buf.now w gate.1 c.copy_held.new.buf
+    (subst (λ (b : Bool). Copied (waiting s.pending) c.args.page c.args.buf.now b c.copy_held.new.buf) c.if-copy_held.true c.copy_held.ensures) in
     record { does = x.0; calls = x.1; sends = x.2 }
 
-pub home-page-requires : goal.home-page-requires
-home-page-requires g c = let gate = c.in-ok-gate.ensures in let e = c.count.ensures in let q = gate.0 in omega arith
+pub home_page-requires : goal.home_page-requires
+home_page-requires g c = let gate = c.in_ok-gate.ensures in let e = c.count.ensures in let q = gate.0 in omega arith
 
 pub returns : goal.returns
 returns g c =
-    let gate = c.in-ok-gate.ensures in
+    let gate = c.in_ok-gate.ensures in
     let s = c.args.self.now in
     let y = c.hear.ensures in
     let w : c.args.page < above (g.D.Device.meaning s.below).count = let e = c.count.ensures in let q = gate.0 in omega arith in
     let x = home_read g.D.Device.agrees g.D.Device.meaning g.D.Device.sound s c.hear.new.self c.read-r.new.self c.read-r.result c.hear.result y.below y.same
-    c.args.page c.args.buf.now c.copy-held.new.buf c.read-r.new.buf gate.2 w gate.1
-    (subst (λ (b : Bool). Copied (waiting s.pending) c.args.page c.args.buf.now b c.copy-held.new.buf) c.if-copy-held.false c.copy-held.ensures)
-    y.after (subst (λ (i : ℕ). Does g.D.Device.agrees g.D.Device.meaning (reads i c.copy-held.new.buf c.read-r.new.buf) s.below c.read-r.result c.read-r.new.self) c.home-page.ensures c.read-r.ensures.does) in
+    c.args.page c.args.buf.now c.copy_held.new.buf c.read-r.new.buf gate.2 w gate.1
+    (subst (λ (b : Bool). Copied (waiting s.pending) c.args.page c.args.buf.now b c.copy_held.new.buf) c.if-copy_held.false c.copy_held.ensures)
+    y.after (subst (λ (i : ℕ). Does g.D.Device.agrees g.D.Device.meaning (reads i c.copy_held.new.buf c.read-r.new.buf) s.below c.read-r.result c.read-r.new.self) c.home_page.ensures c.read-r.ensures.does) in
     record { does = x.0; calls = x.1; sends = x.2 }

@@ -7,7 +7,7 @@ use Rattle.journal.proofs.Layer.{down_sync, idle_sync, synced}
 use Rattle.journal.proofs.journal.Journal.sync_pending.Goals as goal
 
 pub commit-r-requires : goal.commit-r-requires
-commit-r-requires g c = let e = c.as-slice.ensures.size in omega arith
+commit-r-requires g c = let e = c.as_slice.ensures.size in omega arith
 
 pub returns-then-not-self : goal.returns-then-not-self
 returns-then-not-self g c =
@@ -27,8 +27,8 @@ returns g c =
     let agrees = g.D.Device.agrees in
     let meaning = g.D.Device.meaning in
     let es = waiting s.pending in
-    let items : c.as-slice.result.now ≡ es = c.as-slice.ensures.items in
-    let size : length es ≡ min s.pending.len 64 = sym (ap length items) ∙ c.as-slice.ensures.size in
+    let items : c.as_slice.result.now ≡ es = c.as_slice.ensures.items in
+    let size : length es ≡ min s.pending.len 64 = sym (ap length items) ∙ c.as_slice.ensures.size in
     let some : 0 < length es = let n = c.count.ensures in let z = c.if-count-eq0.false in omega arith in
     let y = c.hear.ensures in
     let q = c.commit-r.ensures in

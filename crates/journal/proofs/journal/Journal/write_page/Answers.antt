@@ -5,15 +5,15 @@ use Rattle.journal.specs.Waiting.{waiting, Put}
 use Rattle.journal.proofs.Layer.{refused_write, put_write, full_write}
 use Rattle.journal.proofs.journal.Journal.write_page.Goals as goal
 
-pub returns-in-err-gate : goal.returns-in-err-gate
-returns-in-err-gate g c =
-    let p = err_from_is_err_and c.from-residual.result c.from-residual.ensures.1 in
-    let x = refused_write g.D.Device.agrees g.D.Device.meaning g.D.Device.sound c.args.self.now c.count.result c.args.page c.args.buf.now c.count.ensures c.in-err-gate.field-0.0 c.in-err-gate.ensures in
+pub returns-in_err-gate : goal.returns-in_err-gate
+returns-in_err-gate g c =
+    let p = err_from_is_err_and c.from_residual.result c.from_residual.ensures.1 in
+    let x = refused_write g.D.Device.agrees g.D.Device.meaning g.D.Device.sound c.args.self.now c.count.result c.args.page c.args.buf.now c.count.ensures c.in_err-gate.field-0.0 c.in_err-gate.ensures in
     record { does = rw (p.1, p.2) x.0; calls = rw (p.1, p.2) x.1; sends = x.2 }
 
 pub returns-then-put : goal.returns-then-put
 returns-then-put g c =
-    let gate = c.in-ok-gate.ensures in
+    let gate = c.in_ok-gate.ensures in
     let s = c.args.self.now in
     let w : c.args.page < above (g.D.Device.meaning s.below).count = let e = c.count.ensures in let q = gate.0 in omega arith in
     let x = put_write g.D.Device.agrees g.D.Device.meaning g.D.Device.sound s gate.2 c.put.new.self c.args.page c.args.buf.now w gate.1
@@ -22,7 +22,7 @@ returns-then-put g c =
 
 pub returns : goal.returns
 returns g c =
-    let gate = c.in-ok-gate.ensures in
+    let gate = c.in_ok-gate.ensures in
     let s = c.args.self.now in
     let w : c.args.page < above (g.D.Device.meaning s.below).count = let e = c.count.ensures in let q = gate.0 in omega arith in
     let x = full_write g.D.Device.agrees g.D.Device.meaning g.D.Device.sound s gate.2 c.put.new.self c.args.page c.args.buf.now w gate.1
