@@ -1,10 +1,10 @@
 -- An empty store is made: a restart, writes, a sync.
-use Rattle.std.proofs.Common.{◌≡◌, ℕ, ◌+◌, ◌<◌, ◌≤◌, Bool, true, false, eqb, List, [], length, Ok, Err, sym, refl, ap, ◌∙◌, subst, arith, MatchResult}
+use Rattle.std.proofs.Common.{◌≡◌, ℕ, ◌<◌, ◌≤◌, true, false, eqb, Ok, Err, sym, refl, ◌∙◌, subst, arith, MatchResult}
 use Rattle.std.proofs.lemmas.Bool.{eq-eqb}
 use Rattle.device.specs.declared.DeviceFault.{DeviceFault}
-use Rattle.device.specs.Meaning.{State, Meaning, Grouped, Alike}
+use Rattle.device.specs.Meaning.{Meaning, Grouped}
 use Rattle.device.specs.Numbers.{number}
-use Rattle.device.specs.Calls.{Answer, Call, syncs, restarts, none, more, GroupCalls}
+use Rattle.device.specs.Calls.{Answer, syncs, restarts, none, more, GroupCalls}
 use Rattle.device.specs.Clauses.{GroupDoes}
 use Rattle.device.proofs.CallsLaws.{joined}
 use Rattle.pages.specs.Formats.{Empty}

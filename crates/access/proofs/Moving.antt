@@ -1,16 +1,15 @@
 -- Writes of a group device, one after another.
-use Rattle.std.proofs.Common.{◌≡◌, ℕ, ◌+◌, ◌<◌, ◌≤◌, Bool, true, false, ◌||◌, ◌⊎◌, List, [], length, Ok, Err, Result, sym, refl, ◌∙◌, subst, inl, inr, ⊎_elim, arith, MatchResult}
+use Rattle.std.proofs.Common.{◌≡◌, ℕ, ◌+◌, ◌<◌, ◌≤◌, true, List, length, Ok, Err, sym, refl, ◌∙◌, subst, inl, inr, ⊎_elim, arith, MatchResult}
 use Rattle.std.proofs.lemmas.Bool.{both_ways}
-use Rattle.device.specs.declared.DeviceFault.{DeviceFault}
 use Rattle.device.specs.declared.DeviceFault.TheVariants.{NoSuchPage, BufferSize, PowerLost, PageSpoiled, TooManyWaiting}
-use Rattle.device.specs.Meaning.{State, bytes, has, Meaning, Grouped, Sound, SoundGroup, Alike}
+use Rattle.device.specs.Meaning.{bytes, has, Meaning, Grouped, Sound}
 use Rattle.device.specs.Numbers.{number}
-use Rattle.device.specs.Calls.{Answer, Call, writes, none, more, GroupCalls}
+use Rattle.device.specs.Calls.{Answer, writes, none, more}
 use Rattle.device.specs.Clauses.{GroupDoes}
 use Rattle.device.proofs.CallsLaws.{joined}
 use Rattle.device.proofs.Waits.{one_more}
 use Rattle.pages.specs.Reads.{Ready, Kept, Failed}
-use Rattle.access.specs.Moves.{Room, Moved, Cut, Moves}
+use Rattle.access.specs.Moves.{Room, Moved, Cut}
 
 module _ {D : Type 0} (agrees : D → Type 0) (meaning : D → Meaning) (grouped : D → Grouped) where
   abbrev R : D → Type 0

@@ -1,8 +1,8 @@
 -- The record of a key: in a map, in the bucket of its hash, and in the pages.
-use Rattle.std.proofs.Common.{◌≡◌, ℕ, ◌+◌, ◌-◌, ◌/◌, ◌%◌, ◌^◌, ◌<◌, ◌≤◌, min, Bool, true, false, cond, eqb, leb, ◌⊎◌, List, [], ◌∷◌, ◌++◌, length, drop, IfSome, Some, None, Option, sym, refl, ap, ◌∙◌, subst, inl, inr, ⊎_elim, arith, pow_mono, MatchOption}
+use Rattle.std.proofs.Common.{◌≡◌, ℕ, ◌+◌, ◌-◌, ◌/◌, ◌%◌, ◌^◌, ◌<◌, ◌≤◌, min, Bool, true, false, cond, eqb, ◌⊎◌, List, [], ◌∷◌, ◌++◌, length, drop, IfSome, Some, None, Option, sym, refl, ap, ◌∙◌, subst, inl, inr, ⊎_elim, arith, pow_mono, MatchOption}
 use Rattle.std.specs.List.{AllByRecursion as All}
 use Rattle.std.proofs.lemmas.Bool.{both_ways, cases_Bool, cond-true, cond-false, and_parts, leb-true, false≢true}
-use Rattle.device.specs.Meaning.{State, bytes, spoiled}
+use Rattle.device.specs.Meaning.{State, bytes}
 use Rattle.keys.specs.Rule.{Rule, Lawful}
 use Rattle.layout.specs.Envelope.{envelope}
 use Rattle.tree.specs.declared.classes.ClassRow.{ClassRow}
@@ -10,7 +10,7 @@ use Rattle.tree.specs.Classes.{row_at, scan, mark, draft}
 use Rattle.tree.specs.Members.{In}
 use Rattle.tree.specs.Prefix.{pre}
 use Rattle.tree.specs.Loads.{hashed}
-use Rattle.tree.specs.Maps.{Rec, Sound, Apart, Valid}
+use Rattle.tree.specs.Maps.{Rec, Apart, Valid}
 use Rattle.tree.proofs.Mapping.{all_of}
 use Rattle.tree.proofs.Prefixes.{pre_below, pre_pre}
 use Rattle.tree.proofs.Sets.{in_right}
@@ -18,7 +18,7 @@ use Rattle.pages.specs.declared.root.Root.{Root}
 use Rattle.pages.specs.Bytes.{root_body, entry_at}
 use Rattle.pages.specs.Records.{records, BucketIs, BucketRead, Fine, FoundAt, within}
 use Rattle.pages.specs.Images.{shows, root, entry, AllMet, WellFormed}
-use Rattle.pages.specs.Laws.{Says, Fits}
+use Rattle.pages.specs.Laws.{Fits}
 use Rattle.pages.specs.Reads.{PageRead}
 use Rattle.pages.proofs.Checking.{one_spoiled, directories_spoiled}
 use Rattle.pages.proofs.Envelopes.{bucket_one}

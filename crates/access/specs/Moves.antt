@@ -1,10 +1,10 @@
 -- Calls of a group device that write pages, and what they leave.
-use Rattle.std.specs.Prelude.{◌≡◌, ℕ, ◌+◌, ◌<◌, ◌≤◌, true, false, ◌⊎◌, List, [], length, Result, MatchResult}
+use Rattle.std.specs.Prelude.{◌≡◌, ℕ, ◌+◌, ◌<◌, ◌≤◌, true, false, ◌⊎◌, [], length, Result, MatchResult}
 use Rattle.device.specs.declared.DeviceFault.{DeviceFault}
-use Rattle.device.specs.Meaning.{State, bytes, has, Meaning, Grouped, SoundGroup, Alike}
+use Rattle.device.specs.Meaning.{State, has, Meaning, Grouped, SoundGroup, Alike}
 use Rattle.device.specs.Numbers.{number}
 use Rattle.device.specs.Promises.{Down}
-use Rattle.device.specs.Calls.{Answer, GroupCalls}
+use Rattle.device.specs.Calls.{GroupCalls}
 use Rattle.pages.specs.Reads.{Ready}
 use Rattle.pages.specs.Formats.{Empty}
 

@@ -1,5 +1,5 @@
 -- The record of a key in a map, and how it is handed out.
-use Rattle.std.specs.Prelude.{◌≡◌, ℕ, cond, List, [], ◌∷◌, ◌++◌, length, drop, Some, None, Option}
+use Rattle.std.specs.Prelude.{ℕ, cond, List, [], ◌∷◌, ◌++◌, length, drop, Some, None, Option}
 use Rattle.keys.specs.Rule.{Rule}
 use Rattle.tree.specs.declared.classes.ClassRow.{ClassRow}
 use Rattle.tree.specs.Classes.{row_at}

@@ -1,4 +1,6 @@
 //! What a store does with the pages of a group device: it writes a page, makes an empty store, and looks a key up.
+#![tactic(auto)]
+
 mod format;
 mod lookup;
 mod writing;

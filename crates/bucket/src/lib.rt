@@ -1,4 +1,6 @@
 //! What a change of a key leaves in the buckets of its hash: their loads, their pages, and how many bits they have.
+#![tactic(auto)]
+
 mod laws;
 mod page;
 mod sift;

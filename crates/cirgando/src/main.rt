@@ -1,4 +1,6 @@
 //! Plays a transcript of calls on a disk that can lose power, and prints each answer.
+#![tactic(auto)]
+
 mod answer;
 mod command;
 mod script;

@@ -1,4 +1,6 @@
 //! The entries of a store's directory, and what a change does to them.
+#![tactic(auto)]
+
 ghost use Rattle.std.specs.Prelude.{◌≡◌, ℕ, ◌≤◌, None, MatchBool, MatchOption};
 ghost use Rattle.directory.specs.Names.{at};
 ghost use Rattle.directory.specs.Laws.{PagesTaken};

@@ -1,5 +1,5 @@
 -- The letters of an arming.
-use Rattle.std.proofs.Common.{◌≡◌, ℕ, ◌+◌, ◌%◌, ◌<◌, ◌≤◌, min, max, Bool, true, false, cond, ◌&&◌, leb, List, [], ◌∷◌, length, get_or, take, drop, sym, refl, ap, ◌∙◌, mod-lt, arith}
+use Rattle.std.proofs.Common.{◌≡◌, ℕ, ◌+◌, ◌%◌, ◌<◌, ◌≤◌, min, max, true, false, ◌&&◌, leb, List, length, get_or, take, drop, sym, ap, ◌∙◌, mod-lt, arith}
 use Rattle.std.proofs.lemmas.List.{length-take-le, get_or-take, at_drop_more, at_drop_all}
 use Rattle.disk.specs.Arm.{letter_of, letters_of}
 use Rattle.std.proofs.lemmas.Bool.{and_parts, leb-true}

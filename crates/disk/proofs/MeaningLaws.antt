@@ -1,9 +1,9 @@
 -- What the disk's work on its images does to its meaning.
-use Rattle.std.proofs.Common.{◌≡◌, ℕ, ◌+◌, ◌-◌, ◌*◌, ◌/◌, ◌<◌, ◌≤◌, min, Bool, true, false, cond, not, ◌&&◌, eqb, ◌≢◌, ◌⊎◌, List, [], ◌∷◌, ◌++◌, length, get_or, take, drop, set, sym, refl, ap, ◌∙◌, subst, inl, inr, ⊎_elim, arith}
+use Rattle.std.proofs.Common.{◌≡◌, ℕ, ◌+◌, ◌*◌, ◌/◌, ◌<◌, ◌≤◌, min, true, false, cond, not, ◌&&◌, eqb, ◌≢◌, ◌⊎◌, List, length, get_or, take, set, sym, refl, ap, ◌∙◌, subst, inl, inr, ⊎_elim, arith}
 use Rattle.std.specs.Str.{bytes_eq}
-use Rattle.std.proofs.lemmas.List.{length-set, length-take, get_or-set_same, get_or-set_other}
+use Rattle.std.proofs.lemmas.List.{length-set, get_or-set_same, get_or-set_other}
 use Rattle.std.proofs.lemmas.Slice.Eq.{bytes_eq-Decides}
-use Rattle.std.proofs.lemmas.Bool.{cases_Bool, cases_eq, cond-true, cond-false, cond_both, both_ways, and_cases, and_parts, not-false, not-true, eqb-true, eqb-false, eq-eqb, ne_eqb}
+use Rattle.std.proofs.lemmas.Bool.{cases_eq, cond-true, cond-false, cond_both, both_ways, and_cases, not-false}
 use Rattle.device.specs.Meaning.{State, bytes, spoiled}
 use Rattle.device.specs.Promises.{Lost, ReadDone, ReadSpoiled, WriteDone, WriteLost, SyncDone, RestartDone}
 use Rattle.device.proofs.Meanings.{same_self}
@@ -11,7 +11,7 @@ use Rattle.disk.specs.Raw.{raw, put_raw, decode, holds, sealed, mix, torn, chose
 use Rattle.disk.specs.Arm.{letter_of}
 use Rattle.disk.specs.Image.{count_of, marked, current, Fate, cleared, Swept, cut_page, rank, CutTo}
 use Rattle.disk.specs.Held.{Held, count, means, stored, started, Synced, Cut}
-use Rattle.disk.proofs.RawLaws.{length_raw, length_put, raw_put, raw_other, length_sealed, decode_sealed}
+use Rattle.disk.proofs.RawLaws.{length_put, raw_put, raw_other, length_sealed, decode_sealed}
 use Rattle.disk.proofs.SweepLaws.{cleared_below, length_cleared}
 
 -- the pages lie within the images

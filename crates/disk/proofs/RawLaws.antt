@@ -1,12 +1,12 @@
 -- Raw pages of an image: what a write to one leaves.
-use Rattle.std.proofs.Common.{◌≡◌, ℕ, ◌+◌, ◌-◌, ◌*◌, ◌/◌, ◌%◌, ◌<◌, ◌≤◌, min, Bool, true, false, cond, not, ◌&&◌, eqb, ◌≢◌, ◌⊎◌, List, [], ◌∷◌, ◌++◌, length, get_or, take, drop, sym, refl, ap, ◌∙◌, subst, inl, inr, ⊎_elim, mod-eq_of_lt, arith, rules}
+use Rattle.std.proofs.Common.{◌≡◌, ℕ, ◌+◌, ◌-◌, ◌*◌, ◌/◌, ◌%◌, ◌<◌, ◌≤◌, Bool, true, false, cond, not, ◌&&◌, eqb, ◌≢◌, List, [], ◌∷◌, ◌++◌, length, get_or, take, drop, sym, refl, ap, ◌∙◌, ⊎_elim, mod-eq_of_lt, arith}
 use native.Mathlib.Nat.{div-div-eq-div-mul}
 use borrow.Rule.Slice.PartMut.{put_mid}
-use Rattle.std.proofs.lemmas.List.{places, same_lists, take_at, drop_at, append-nil, length-take, length-drop, length-append, length-take-le, take_all, drop-drop, append_assoc, get_or-take, get_or-drop, get_or_append_left, get_or-append_right, ext_get_or, drop_all, take-append-drop}
+use Rattle.std.proofs.lemmas.List.{take_at, drop_at, append-nil, length-take, length-drop, length-append, drop-drop, append_assoc, get_or-take, get_or-drop, get_or_append_left, get_or-append_right, ext_get_or, drop_all, take-append-drop}
 use Rattle.std.proofs.lemmas.Bool.{cases_order, eq-eqb, ne_eqb, cond-true, cond-false, cond_both}
 use Rattle.disk.specs.Raw.{check_of, raw, put_raw, sealed, holds, decode, stored, mix, torn, chosen}
 use Rattle.std.specs.Str.{bytes_eq}
-use Rattle.device.specs.Meaning.{State, bytes, spoiled}
+use Rattle.device.specs.Meaning.{bytes}
 
 pub back : (a b : ℕ) → (a + b) - a ≡ b
 back a b = omega arith

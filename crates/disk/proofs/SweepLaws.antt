@@ -1,11 +1,11 @@
 -- A walk over the pages that settles them one by one.
-use Rattle.std.proofs.Common.{◌≡◌, ℕ, ◌+◌, ◌-◌, ◌*◌, ◌/◌, ◌<◌, ◌≤◌, min, Bool, true, false, cond, not, eqb, ◌≢◌, ◌⊎◌, List, [], ◌∷◌, ◌++◌, length, get_or, take, drop, set, replicate, sym, refl, ap, ◌∙◌, subst, inl, inr, ⊎_elim, add-one, arith, below_more}
+use Rattle.std.proofs.Common.{◌≡◌, ℕ, ◌+◌, ◌-◌, ◌*◌, ◌<◌, ◌≤◌, true, false, cond, not, eqb, List, length, get_or, drop, set, replicate, sym, refl, ap, ◌∙◌, subst, ⊎_elim, add-one, arith, below_more}
 use Rattle.std.proofs.lemmas.List.{length-append, length-replicate, length-drop, get_or_append_left, get_or-append_right, get_or-replicate, get_or-drop}
 use Rattle.std.proofs.lemmas.List.Edits.{fill_none, fill_more}
 use Rattle.std.proofs.lemmas.Bool.{cases_Bool, cond-true, cond-false}
 use Rattle.disk.specs.Raw.{raw, put_raw}
-use Rattle.disk.specs.Image.{cleared, marked, Swept, count_of, rank}
-use Rattle.disk.proofs.RawLaws.{length_raw, length_put, raw_put, raw_other, drop_put}
+use Rattle.disk.specs.Image.{cleared, marked, Swept, rank}
+use Rattle.disk.proofs.RawLaws.{length_put, raw_put, raw_other, drop_put}
 
 pub cleared_none : (k : List ℕ) → k ≡ cleared 0 k
 unfolding cleared

@@ -1,5 +1,5 @@
 -- How a disk is armed to lose power: after how many counted calls, by which letters, and after how many bytes a torn page tears.
-use Rattle.std.specs.Prelude.{◌≡◌, ℕ, ◌-◌, ◌%◌, min, max, Bool, true, false, ◌&&◌, ◌||◌, List, [], ◌∷◌, length, take, ◌==◌, nat_le, slice_index}
+use Rattle.std.specs.Prelude.{◌≡◌, ℕ, ◌-◌, ◌%◌, min, max, Bool, true, ◌&&◌, ◌||◌, List, [], ◌∷◌, length, take, ◌==◌, nat_le, slice_index}
 use Rattle.disk.specs.declared.arming.ArmFault.{ArmFault}
 use Rattle.disk.specs.declared.arming.ArmFault.TheVariants.{NotAsStated}
 use Rattle.disk.specs.declared.arming.Arming.{Arming}

@@ -1,6 +1,6 @@
 -- At every moment the disk's meaning is sound: a page has a fate, what it shows is one, and each has 252 bytes or is spoiled.
-use Rattle.std.specs.Prelude.{◌≡◌, ℕ, ◌+◌, ◌*◌, ◌<◌, ◌≤◌, Bool, true, false, cond, ◌⊎◌, List, [], ◌∷◌, length, take, drop, refl}
-use Rattle.std.proofs.Common.{sym, ap, ◌∙◌, inl, inr, ⊎_elim, arith, length-take, length-drop}
+use Rattle.std.specs.Prelude.{◌≡◌, ℕ, ◌+◌, ◌*◌, ◌<◌, ◌≤◌, Bool, true, false, cond, List, length, take, refl}
+use Rattle.std.proofs.Common.{ap, ◌∙◌, inl, inr, ⊎_elim, arith, length-take, length-drop}
 use Rattle.device.specs.Meaning.{State, bytes, spoiled, Sound}
 use Rattle.disk.specs.Raw.{raw, holds, decode}
 use Rattle.disk.specs.Image.{count_of, marked, current, Fate}

@@ -1,4 +1,6 @@
 //! A simulated disk over memory that the host lends, which can be armed to lose power at any call.
+#![tactic(auto)]
+
 mod arming;
 mod cut;
 mod disk;

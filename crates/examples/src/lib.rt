@@ -1,4 +1,6 @@
 //! Worked examples of the definitions that contracts cite, proved as one list.
+#![tactic(auto)]
+
 ghost use Rattle.std.specs.Prelude.{◌≡◌, codes};
 ghost use Rattle.crc.specs.Crc32.{crc_of};
 ghost use Rattle.examples.specs.Examples.{Examples};

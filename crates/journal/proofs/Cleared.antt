@@ -1,5 +1,5 @@
 -- The header is cleared where no group stands.
-use Rattle.std.proofs.Common.{ℕ, ◌+◌, ◌-◌, List, [], ap, ◌∙◌, inl, inr, ⊎_elim, arith}
+use Rattle.std.proofs.Common.{ℕ, ◌+◌, List, [], ap, ◌∙◌, inl, inr, ⊎_elim, arith}
 use Rattle.device.specs.Meaning.{State, Meaning, Alike}
 use Rattle.device.specs.Promises.{WriteDone, SyncDone}
 use Rattle.journal.specs.Header.{header}

@@ -1,5 +1,5 @@
 -- Which images may stand, from what each page below may hold: one lemma for each step of a sync, and how a sync leads from step to step.
-use Rattle.std.proofs.Common.{◌≡◌, ℕ, suc, ◌+◌, ◌-◌, ◌<◌, ◌≤◌, true, false, eqb, ◌≢◌, ◌⊎◌, List, [], ◌∷◌, length, sym, refl, ap, ◌∙◌, subst, inl, inr, ⊎_elim, arith}
+use Rattle.std.proofs.Common.{◌≡◌, ℕ, suc, ◌+◌, ◌-◌, ◌<◌, ◌≤◌, true, false, eqb, ◌⊎◌, List, [], ◌∷◌, length, sym, refl, ap, ◌∙◌, subst, inl, inr, ⊎_elim, arith}
 use Rattle.std.proofs.lemmas.Bool.{eqb-true, eqb-false, eq-eqb, ne_eqb, cases_Bool, cases_lt, cond-true, cond-false, false≢true, true≢false}
 use Rattle.device.specs.Meaning.{State, bytes, spoiled, Meaning, Sound, Alike, has}
 use Rattle.device.specs.Promises.{GainsAt, SyncDone}

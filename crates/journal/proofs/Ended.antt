@@ -1,5 +1,5 @@
 -- Ends, after a call that gained no fate below.
-use Rattle.std.proofs.Common.{◌≡◌, ℕ, ◌-◌, List, arith}
+use Rattle.std.proofs.Common.{◌≡◌, ℕ, List, arith}
 use Rattle.device.specs.Meaning.{State, Meaning}
 use Rattle.device.specs.Promises.{NoGain}
 use Rattle.journal.specs.Standing.{Ends}

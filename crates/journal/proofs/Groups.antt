@@ -1,5 +1,5 @@
 -- A journal that agrees with what stands below is a sound group device; and what its calls that stay in memory do.
-use Rattle.std.proofs.Common.{◌≡◌, ℕ, ◌-◌, ◌<◌, Bool, true, ◌⊎◌, List, [], length, Ok, Err, sym, refl, ap, ◌∙◌, subst, inl, inr, ⊎_elim, arith}
+use Rattle.std.proofs.Common.{◌≡◌, ℕ, ◌<◌, Bool, true, ◌⊎◌, List, [], length, Ok, Err, sym, refl, ap, ◌∙◌, subst, inl, inr, ⊎_elim, arith}
 use Rattle.std.proofs.lemmas.Bool.{cases_eq}
 use Rattle.device.specs.declared.DeviceFault.TheVariants.{TooManyWaiting}
 use Rattle.device.specs.Meaning.{State, bytes, spoiled, has, Meaning, Sound, SoundGroup}

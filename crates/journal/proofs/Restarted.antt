@@ -1,6 +1,6 @@
 -- A restart: what the device below shows then is one choice of its fates, and what that lays is the end that stands.
-use Rattle.std.proofs.Common.{◌≡◌, ℕ, ◌+◌, ◌-◌, ◌<◌, ◌≤◌, true, false, ◌⊎◌, List, length, sym, refl, ap, ◌∙◌, inr, ⊎_elim, arith}
-use Rattle.device.specs.Meaning.{State, spoiled, Meaning, Alike}
+use Rattle.std.proofs.Common.{◌≡◌, ℕ, ◌+◌, ◌-◌, ◌<◌, ◌≤◌, true, false, List, length, sym, refl, ap, ◌∙◌, inr, ⊎_elim, arith}
+use Rattle.device.specs.Meaning.{State, Meaning, Alike}
 use Rattle.device.specs.Promises.{RestartDone}
 use Rattle.journal.specs.Standing.{above, whole, laid, Choice, Ends, home}
 use Rattle.journal.specs.Crash.{Within, fresh, Naming, Laying}

@@ -1,5 +1,5 @@
 -- A restart of the journal, from what recovery leaves below.
-use Rattle.std.proofs.Common.{◌≡◌, ℕ, ◌+◌, ◌-◌, ◌<◌, Bool, List, [], Ok, Err, sym, refl, ap, ◌∙◌, inl, ⊎_elim, arith}
+use Rattle.std.proofs.Common.{◌≡◌, ℕ, ◌+◌, ◌<◌, Bool, List, [], Ok, Err, sym, refl, ap, ◌∙◌, inl, ⊎_elim, arith}
 use Rattle.std.proofs.lemmas.Bool.{both_ways}
 use Rattle.device.specs.Meaning.{State, Meaning, Sound}
 use Rattle.device.specs.Calls.{Answer, restarts}

@@ -3,7 +3,7 @@ use Rattle.std.proofs.Common.{◌≡◌, ℕ, zero, suc, ◌+◌, ◌<◌, Bool,
 use Rattle.std.proofs.lemmas.List.{take_more, length-take-le}
 use Rattle.device.specs.declared.DeviceFault.{DeviceFault}
 use Rattle.device.specs.Meaning.{Meaning}
-use Rattle.device.specs.Calls.{Answer, Call, reads, writes, Step, always, lost, Calls, none, more, DeviceCalls}
+use Rattle.device.specs.Calls.{Answer, Call, writes, Step, always, lost, Calls, none, more, DeviceCalls}
 use Rattle.device.proofs.Still.{calls_still}
 use Rattle.journal.specs.declared.entries.Entry.{Entry}
 use Rattle.journal.specs.Waiting.{blank}

@@ -1,6 +1,6 @@
 -- A journal j from the device below it, for any such device, by its ghost members.
 use Rattle.std.specs.Prelude.{◌≡◌, ℕ, ◌≤◌, Bool, true, List, [], length}
-use Rattle.device.specs.Meaning.{State, spoiled, has, Distinct, Meaning, Grouped}
+use Rattle.device.specs.Meaning.{State, spoiled, Distinct, Meaning, Grouped}
 use Rattle.device.specs.Calls.{Answer, Call, DeviceCalls, Over}
 use Rattle.device.specs.Clauses.{Does, GroupDoes}
 use Rattle.journal.specs.declared.journal.Journal.{Journal}

@@ -1,4 +1,6 @@
 //! A redo journal: a group device over any device.
+#![tactic(auto)]
+
 mod entries;
 mod header;
 mod journal;

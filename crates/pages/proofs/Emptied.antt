@@ -1,6 +1,6 @@
 -- The image of an empty store is well formed.
 use Rattle.keys.specs.Rule.{Rule}
-use Rattle.std.proofs.Common.{◌≡◌, ℕ, zero, suc, ◌+◌, ◌-◌, ◌*◌, ◌/◌, ◌%◌, ◌^◌, ◌<◌, ◌≤◌, Bool, true, false, cond, eqb, ◌⊎◌, List, [], ◌∷◌, ◌++◌, length, get_or, replicate, sym, refl, ap, ◌∙◌, subst, ⊎_elim, arith}
+use Rattle.std.proofs.Common.{◌≡◌, ℕ, zero, suc, ◌+◌, ◌-◌, ◌*◌, ◌/◌, ◌%◌, ◌^◌, ◌<◌, ◌≤◌, Bool, true, false, cond, eqb, List, [], ◌∷◌, ◌++◌, length, get_or, replicate, sym, refl, ap, ◌∙◌, subst, ⊎_elim, arith}
 use Rattle.std.proofs.lemmas.List.{get_or-replicate}
 use Rattle.std.proofs.lemmas.Bool.{cases_lt, cond-false, ne_eqb}
 use Rattle.device.specs.Meaning.{State, bytes}
@@ -16,7 +16,7 @@ use Rattle.tree.proofs.Listing.{tree_leaf}
 use Rattle.pages.specs.declared.root.Root.{Root}
 use Rattle.layout.specs.Envelope.{envelope, Enveloped}
 use Rattle.pages.specs.Bytes.{root_body, entry_at}
-use Rattle.pages.specs.Records.{records, BucketIs}
+use Rattle.pages.specs.Records.{BucketIs}
 use Rattle.pages.specs.Images.{shows, root, entry, named, wide, W1, W2, W3, W5, W6, Placed, ReadAs, map_of, WellFormed}
 use Rattle.pages.specs.Formats.{empty_root, Empty}
 use Rattle.pages.specs.Laws.{EmptyFormed}

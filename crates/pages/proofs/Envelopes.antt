@@ -1,7 +1,7 @@
 -- Pages by layout.
 use Rattle.std.proofs.Common.{◌≡◌, ℕ, suc, ◌+◌, ◌-◌, ◌*◌, ◌/◌, ◌%◌, ◌<◌, ◌≤◌, Bool, true, false, eqb, leb, List, [], ◌∷◌, ◌++◌, length, get_or, take, drop, set, replicate, MatchBool, sym, refl, ap, ◌∙◌, subst, arith, length-drop, leb-false, leb-true}
 use Rattle.std.proofs.lemmas.List.{take_all, append_assoc, length-set, get_or-set_same, get_or-set_other, set-append_left, get_or_append_left}
-use Rattle.tree.specs.Maps.{Rec, size}
+use Rattle.tree.specs.Maps.{Rec}
 use Rattle.layout.specs.Envelope.{be2, envelope, Enveloped}
 use Rattle.pages.specs.Bytes.{be4, root_body, Directory, EntrySet}
 use Rattle.pages.specs.declared.root.Root.{Root}

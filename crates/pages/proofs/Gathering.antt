@@ -1,8 +1,8 @@
 -- The pages that the entries name, gathered one by one.
-use Rattle.std.proofs.Common.{◌≡◌, ℕ, ◌+◌, ◌-◌, ◌<◌, ◌≤◌, Bool, true, false, ◌&&◌, List, [], ◌∷◌, length, get_or, set, MatchBool, sym, ap, ◌∙◌, subst, arith, length-append, below_more}
+use Rattle.std.proofs.Common.{◌≡◌, ℕ, ◌+◌, ◌<◌, ◌≤◌, Bool, true, false, ◌&&◌, List, [], ◌∷◌, length, get_or, set, MatchBool, sym, ap, ◌∙◌, subst, arith, length-append, below_more}
 use Rattle.std.specs.List.{AllByRecursion as All}
 use Rattle.std.proofs.lemmas.List.{get_or-set_same, get_or-set_other}
-use Rattle.device.specs.Meaning.{State, bytes, spoiled}
+use Rattle.device.specs.Meaning.{State, spoiled}
 use Rattle.tree.specs.Maps.{Rec}
 use Rattle.keys.specs.Rule.{Rule}
 use Rattle.layout.specs.Envelope.{envelope}

@@ -7,7 +7,7 @@ use Rattle.device.specs.Meaning.{State, bytes, spoiled, Meaning, Grouped, SoundG
 use Rattle.device.specs.Numbers.{number}
 use Rattle.device.specs.Promises.{Same}
 use Rattle.device.specs.GroupPromises.{NoEnd, SameGroup}
-use Rattle.device.specs.Calls.{Answer, Call, reads, Calls, none, more, lost, GroupCalls}
+use Rattle.device.specs.Calls.{Answer, Call, reads, Calls, none, more, GroupCalls}
 use Rattle.device.specs.Clauses.{GroupDoes}
 use Rattle.device.proofs.Meanings.{same_self, same_group_self}
 use Rattle.pages.specs.Reads.{made, Ready, Kept, Failed, Shows, Seen, Looks, PageRead, told}

@@ -1,5 +1,5 @@
 -- A walk that tests where records stand.
-use Rattle.std.proofs.Common.{◌≡◌, ℕ, ◌+◌, ◌-◌, false, List, ◌∷◌, ◌++◌, sym, refl, subst, inl}
+use Rattle.std.proofs.Common.{◌≡◌, ℕ, false, List, ◌∷◌, ◌++◌, sym, refl, subst, inl}
 use Rattle.std.specs.List.{AllByRecursion as All}
 use Rattle.tree.specs.Prefix.{pre}
 use Rattle.tree.specs.Maps.{Rec}

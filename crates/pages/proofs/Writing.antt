@@ -1,8 +1,8 @@
 -- One page of an image written.
-use Rattle.std.proofs.Common.{◌≡◌, ◌+◌, ◌/◌, ◌%◌, ◌⊎◌, sym, ap, ◌∙◌, subst, ⊎_elim, arith}
+use Rattle.std.proofs.Common.{◌≡◌, ◌+◌, ◌/◌, ◌%◌, sym, ap, ◌∙◌, subst, ⊎_elim, arith}
 use Rattle.std.proofs.lemmas.Bool.{cases_eq}
 use Rattle.pages.specs.Bytes.{entry_at, Directory}
-use Rattle.pages.specs.Images.{shows, root_in, entry}
+use Rattle.pages.specs.Images.{shows, root_in}
 use Rattle.pages.specs.Laws.{PageWritten, EntryWritten}
 
 pub page_written : PageWritten

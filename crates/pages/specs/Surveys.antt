@@ -8,7 +8,6 @@ use Rattle.tree.specs.Loads.{Loads, Splits, hashed}
 use Rattle.tree.specs.Trees.{Falls, number}
 use Rattle.tree.specs.Maps.{Rec, Apart}
 use Rattle.pages.specs.declared.root.Root.{Root}
-use Rattle.pages.specs.Records.{records}
 
 -- what an array has for entry i
 abbrev pub at : List ℕ → ℕ → ℕ

@@ -1,4 +1,6 @@
 //! The pages of a store over a group device: their bytes, read and written, and when they are a well-formed image.
+#![tactic(auto)]
+
 mod bucket;
 mod check;
 mod directory;

@@ -1,16 +1,15 @@
 -- A journal over a device that means what it did: it means what it did, and agrees as it did.
 use mathlib.Core.Path.{◌≡◌, refl, sym, ap, subst, ◌∙◌}
-use mathlib.Core.Bool.{Bool, true}
-use mathlib.Core.List.{List, []}
-use mathlib.Core.Logic.{◌⊎◌, inl, inr, ⊎_elim}
-use Prim.Native.Nat.{ℕ, ◌+◌, ◌-◌, ◌<◌, min}
+use mathlib.Core.Bool.{Bool}
+use mathlib.Core.List.{List}
+use mathlib.Core.Logic.{inl, inr, ⊎_elim}
+use Prim.Native.Nat.{ℕ, ◌+◌, ◌<◌}
 use native.Mathlib.Omega.{arith}
-use Rattle.device.specs.Meaning.{State, spoiled, Meaning, Alike}
+use Rattle.device.specs.Meaning.{State, Meaning, Alike}
 use Rattle.device.specs.Promises.{Same}
 use Rattle.journal.specs.declared.entries.Entry.{Entry}
 use Rattle.journal.specs.Waiting.{held, AllFit}
 use Rattle.journal.specs.Standing.{above, laid, Ends, home, journal}
-use Rattle.journal.specs.Crash.{Bodies}
 use Rattle.journal.specs.Over.{reader, Agrees}
 
 module _ (m n : Meaning) (s : Same m n) where

@@ -1,4 +1,6 @@
 //! Piles: a device, or a layer over a pile. Every pile that stands on a disk has that disk at its bottom, where it can be armed.
+#![tactic(auto)]
+
 ghost use Rattle.device.specs.Promises.{Same};
 ghost use Rattle.disk.specs.Held.{Held, held, Arms};
 

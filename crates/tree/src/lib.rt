@@ -1,5 +1,7 @@
 //! What the pages of a store must hold: classes of records, maps of records, and the tree of buckets that a map gives.
 //! The definitions stand in specs; each function here gives a number or an answer of the tree, and its contract asks for the laws that go with it.
+#![tactic(auto)]
+
 ghost use Rattle.std.specs.Prelude.{◌≡◌};
 ghost use Rattle.tree.specs.Prefix.{pre, sib};
 

@@ -1,7 +1,6 @@
 use Rattle.std.proofs.Common.{ℕ, length, refl, ap, arith}
 use Rattle.tree.proofs.Mapping.{all_of}
 use Rattle.pages.specs.Records.{Fine, viewed}
-use Rattle.access.specs.declared.lookup.Found.{Found}
 use Rattle.access.proofs.Seeking.{bucket_bytes, found_in, fine_short, front_filled}
 use Rattle.access.proofs.lookup.copy_found.Goals as goal
 

@@ -1,4 +1,4 @@
-use Rattle.std.proofs.Common.{◌≡◌, sym, refl, ap, ◌∙◌, rules}
+use Rattle.std.proofs.Common.{refl, rules}
 use Rattle.disk.specs.Image.{marked}
 use Rattle.disk.proofs.cut.cut_page.Goals as goal
 use Rattle.disk.proofs.cut.cut_page.Goals.{then-marks-i-ne0, else-marks-i-ne0}

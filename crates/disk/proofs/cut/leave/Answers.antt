@@ -1,4 +1,4 @@
-use Rattle.std.proofs.Common.{◌≡◌, sym, ap, ◌∙◌, rules}
+use Rattle.std.proofs.Common.{sym, ap, ◌∙◌, rules}
 use Rattle.disk.specs.Raw.{raw, put_raw}
 use Rattle.disk.proofs.RawLaws.{put_self, chosen_o, chosen_n, chosen_t}
 use Rattle.disk.proofs.cut.leave.Goals as goal

@@ -1,4 +1,4 @@
-use Rattle.std.proofs.Common.{ap, rules}
+use Rattle.std.proofs.Common.{rules}
 use Rattle.disk.specs.Raw.{holds}
 use Rattle.disk.proofs.raw.good.Goals as goal
 

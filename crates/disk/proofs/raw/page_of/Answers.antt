@@ -1,4 +1,4 @@
-use Rattle.std.proofs.Common.{◌≡◌, ◌*◌, length, take, drop, refl, ap, ◌∙◌}
+use Rattle.std.proofs.Common.{◌*◌, length, take, drop, ap, ◌∙◌}
 use Rattle.disk.specs.Raw.{raw}
 use Rattle.disk.proofs.RawLaws.{back, length_raw}
 use Rattle.disk.proofs.raw.page_of.Goals as goal

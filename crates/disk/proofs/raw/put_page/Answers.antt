@@ -1,4 +1,4 @@
-use Rattle.std.proofs.Common.{◌≡◌, ◌*◌, refl, ap, ◌∙◌}
+use Rattle.std.proofs.Common.{◌*◌, ap, ◌∙◌}
 use Rattle.disk.specs.Raw.{put_raw}
 use Rattle.disk.proofs.RawLaws.{back, put_is}
 use Rattle.disk.proofs.raw.put_page.Goals as goal

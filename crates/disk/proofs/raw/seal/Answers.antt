@@ -1,6 +1,5 @@
-use Rattle.std.proofs.Common.{◌≡◌, ℕ, ◌/◌, ◌%◌, List, [], ◌∷◌, ◌++◌, length, refl, ap, ◌∙◌, arith, rules}
+use Rattle.std.proofs.Common.{◌/◌, ◌%◌, [], ◌∷◌, ◌++◌, length, ap, ◌∙◌}
 use Rattle.disk.specs.Raw.{sealed}
-use Rattle.disk.specs.Raw.{check_of}
 use Rattle.disk.proofs.RawLaws.{seal_is}
 use Rattle.disk.proofs.raw.seal.Goals as goal
 

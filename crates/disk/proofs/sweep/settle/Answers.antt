@@ -1,7 +1,7 @@
-use Rattle.std.proofs.Common.{◌≡◌, ℕ, sym, refl, ap, ◌∙◌, subst, arith}
+use Rattle.std.proofs.Common.{sym, arith}
 use Rattle.std.proofs.lemmas.Bool.{cond-true, cond-false}
 use Rattle.disk.specs.Raw.{raw}
-use Rattle.disk.specs.Image.{current, marked, Swept}
+use Rattle.disk.specs.Image.{current, marked}
 use Rattle.disk.proofs.RawLaws.{length_raw}
 use Rattle.disk.proofs.SweepLaws.{swept_none, swept_step, at_end}
 use Rattle.disk.proofs.sweep.settle.Goals as goal

@@ -1,4 +1,3 @@
-use Rattle.std.proofs.Common.{◌≡◌}
 use Rattle.disk.specs.Image.{Swept, current}
 use Rattle.disk.proofs.sweep.settle.Given as goal
 

@@ -1,4 +1,4 @@
-use mathlib.Core.Path.{◌≡◌, refl, sym, subst}
+use mathlib.Core.Path.{refl, sym, subst}
 use Rattle.device.specs.Promises.{Same}
 use Rattle.disk.specs.Held.{Arms}
 use Rattle.cache.proofs.Layer.{same_agrees, under_same}

@@ -1,4 +1,4 @@
-use mathlib.Core.Path.{◌≡◌, sym, subst}
+use mathlib.Core.Path.{sym, subst}
 use Rattle.device.specs.Promises.{Same}
 use Rattle.disk.specs.Held.{Arms}
 use Rattle.journal.specs.Waiting.{waiting}

@@ -1,4 +1,4 @@
-use Rattle.std.proofs.Common.{◌≡◌, ◌≤◌, length, arith, rules}
+use Rattle.std.proofs.Common.{rules}
 use Rattle.disk.proofs.ArmLaws.{letter_is}
 use Rattle.disk.proofs.arming.Arming.letter.Goals as goal
 

@@ -1,4 +1,4 @@
-use Rattle.std.proofs.Common.{◌≡◌, sym, refl, arith}
+use Rattle.std.proofs.Common.{sym, refl, arith}
 use Rattle.disk.proofs.ArmLaws.{stated_bounds, in_use}
 use Rattle.disk.proofs.arming.Arming.new.Goals as goal
 

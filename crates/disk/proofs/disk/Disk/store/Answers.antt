@@ -1,4 +1,4 @@
-use Rattle.std.proofs.Common.{◌≡◌, ℕ, ◌*◌, List, set, ap, ◌∙◌}
+use Rattle.std.proofs.Common.{ℕ, ◌*◌, List, set, ap, ◌∙◌}
 use Rattle.disk.specs.Raw.{put_raw}
 use Rattle.disk.specs.Held.{Held, held}
 use Rattle.disk.proofs.RawLaws.{back, put_is}

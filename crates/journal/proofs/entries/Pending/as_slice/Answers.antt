@@ -1,4 +1,4 @@
-use Rattle.std.proofs.Common.{◌≡◌, ℕ, ◌-◌, length, take, ap, ◌∙◌, arith, rules}
+use Rattle.std.proofs.Common.{◌≡◌, ℕ, ◌-◌, length, arith, rules}
 use Rattle.std.proofs.lemmas.List.{length-take-le}
 use Rattle.journal.proofs.Puts.{take_short}
 use Rattle.journal.proofs.entries.Pending.as_slice.Goals as goal

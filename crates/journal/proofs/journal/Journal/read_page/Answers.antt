@@ -1,4 +1,4 @@
-use Rattle.std.proofs.Common.{ℕ, ◌-◌, ◌<◌, Bool, subst, arith}
+use Rattle.std.proofs.Common.{ℕ, ◌<◌, Bool, subst, arith}
 use Rattle.std.proofs.lemmas.Result.{err_from_is_err_and}
 use Rattle.device.specs.Calls.{reads}
 use Rattle.device.specs.Clauses.{Does}

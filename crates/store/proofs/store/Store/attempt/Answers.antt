@@ -5,17 +5,17 @@ use Rattle.store.specs.Clauses.{after, Follows, Alone}
 use Rattle.store.proofs.Playing.{stopped_turns, stopped_rests}
 use Rattle.store.proofs.store.Store.attempt.Goals as goal
 
-pub returns-in-default-Recover : goal.returns-in-default-Recover
-returns-in-default-Recover g c =
+pub returns-in_default-Recover : goal.returns-in_default-Recover
+returns-in_default-Recover g c =
     let s = c.args.self.now in
     let buf = c.args.buf.now in
-    let r = c.recover-any.result in
-    let s' = after (replied r) c.recover-any.new.self in
-    let e = ap event_of (sym c.in-default-Recover.is-1) in
+    let r = c.recover_any.result in
+    let s' = after (replied r) c.recover_any.new.self in
+    let e = ap event_of (sym c.in_default-Recover.is-1) in
     record {
-      shape = subst (λ (x : Event). Shaped x r) e c.recover-any.ensures.shape;
-      book = subst (λ (x : Event). Follows g.K.KeyRule.rule g.D.Device.agrees g.D.Device.meaning g.D.GroupDevice.grouped x s buf (replied r) buf s') e (c.recover-any.ensures.book buf);
-      alone = subst (λ (x : Event). Alone g.K.KeyRule.rule g.D.Device.agrees g.D.Device.meaning g.D.GroupDevice.grouped x s buf (replied r) buf s') e (c.recover-any.ensures.alone buf);
+      shape = subst (λ (x : Event). Shaped x r) e c.recover_any.ensures.shape;
+      book = subst (λ (x : Event). Follows g.K.KeyRule.rule g.D.Device.agrees g.D.Device.meaning g.D.GroupDevice.grouped x s buf (replied r) buf s') e (c.recover_any.ensures.book buf);
+      alone = subst (λ (x : Event). Alone g.K.KeyRule.rule g.D.Device.agrees g.D.Device.meaning g.D.GroupDevice.grouped x s buf (replied r) buf s') e (c.recover_any.ensures.alone buf);
     }
 
 pub returns-in-Stopped-default : goal.returns-in-Stopped-default

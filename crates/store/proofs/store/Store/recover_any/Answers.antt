@@ -5,37 +5,37 @@ use Rattle.access.proofs.Making.{restarted}
 use Rattle.store.proofs.Opening.{restart_lost, restart_unopened, check_lost, check_unopened, check_done, check_opens, check_never, check_refuses}
 use Rattle.store.proofs.store.Store.recover_any.Goals as goal
 
-pub returns-then-page-count-lt-FEWEST-PAGES : goal.returns-then-page-count-lt-FEWEST-PAGES
-returns-then-page-count-lt-FEWEST-PAGES g c = record {
+pub returns-then-page_count-lt-FEWEST_PAGES : goal.returns-then-page_count-lt-FEWEST_PAGES
+returns-then-page_count-lt-FEWEST_PAGES g c = record {
   shape = tt;
-  book = λ buf b a. absurd (omega (arith, a.pages, c.page-count.ensures, c.if-page-count-lt-FEWEST-PAGES.true));
-  alone = λ buf o. (none, (omega (arith, c.page-count.ensures, c.if-page-count-lt-FEWEST-PAGES.true), refl), refl);
+  book = λ buf b a. absurd (omega (arith, a.pages, c.page_count.ensures, c.if-page_count-lt-FEWEST_PAGES.true));
+  alone = λ buf o. (none, (omega (arith, c.page_count.ensures, c.if-page_count-lt-FEWEST_PAGES.true), refl), refl);
 }
 
-pub returns-in-err-restart : goal.returns-in-err-restart
-returns-in-err-restart g c =
-    let p = err_from_is_err_and c.from-residual.result c.from-residual.ensures.1 in
-    let r = c.in-err-restart.ensures.does in
+pub returns-in_err-restart : goal.returns-in_err-restart
+returns-in_err-restart g c =
+    let p = err_from_is_err_and c.from_residual.result c.from_residual.ensures.1 in
+    let r = c.in_err-restart.ensures.does in
     rw (p.1, p.2) (record {
       shape = tt;
       book = λ buf b a. restart_lost g.K.KeyRule.rule g.met.K.KeyRule.lawful g.D.Device.agrees g.D.Device.meaning g.D.GroupDevice.grouped c.args.self.now c.restart.new.self _ r buf b a;
       alone = λ buf o. let z = restart_unopened g.K.KeyRule.rule g.met.K.KeyRule.lawful g.D.Device.agrees g.D.Device.meaning g.D.GroupDevice.grouped c.args.self.now c.restart.new.self _ r o in (z.0, z.1, refl);
     })
 
-pub returns-in-err-check-image : goal.returns-in-err-check-image
-returns-in-err-check-image g c =
-    let p = err_from_is_err_and c.from-residual-in-err-check-image.result c.from-residual-in-err-check-image.ensures.1 in
+pub returns-in_err-check_image : goal.returns-in_err-check_image
+returns-in_err-check_image g c =
+    let p = err_from_is_err_and c.from_residual-in_err-check_image.result c.from_residual-in_err-check_image.ensures.1 in
     let s = c.args.self.now in
     let e = c.restart.new.self in
-    let r = c.in-ok-restart.ensures.does in
+    let r = c.in_ok-restart.ensures.does in
     rw (p.1, p.2) (record {
       shape = tt;
       book = λ buf b a.
-          let q = c.in-err-check-image.ensures (restarted g.D.Device.agrees g.D.Device.meaning g.D.GroupDevice.grouped s.device e _ a.below r) in
-          check_lost g.K.KeyRule.rule g.met.K.KeyRule.lawful g.D.Device.agrees g.D.Device.meaning g.D.GroupDevice.grouped s e _ r c.check-image.new.device _ 261 q.0 q.1 buf b a;
+          let q = c.in_err-check_image.ensures (restarted g.D.Device.agrees g.D.Device.meaning g.D.GroupDevice.grouped s.device e _ a.below r) in
+          check_lost g.K.KeyRule.rule g.met.K.KeyRule.lawful g.D.Device.agrees g.D.Device.meaning g.D.GroupDevice.grouped s e _ r c.check_image.new.device _ 261 q.0 q.1 buf b a;
       alone = λ buf o.
-          let q = c.in-err-check-image.ensures (restarted g.D.Device.agrees g.D.Device.meaning g.D.GroupDevice.grouped s.device e _ o.below r) in
-          let z = check_unopened g.K.KeyRule.rule g.met.K.KeyRule.lawful g.D.Device.agrees g.D.Device.meaning g.D.GroupDevice.grouped s e _ r c.check-image.new.device _ 261 q.0 q.1 o in
+          let q = c.in_err-check_image.ensures (restarted g.D.Device.agrees g.D.Device.meaning g.D.GroupDevice.grouped s.device e _ o.below r) in
+          let z = check_unopened g.K.KeyRule.rule g.met.K.KeyRule.lawful g.D.Device.agrees g.D.Device.meaning g.D.GroupDevice.grouped s e _ r c.check_image.new.device _ 261 q.0 q.1 o in
           (z.0, z.1, refl);
     })
 
@@ -43,15 +43,15 @@ pub returns-in-Ok : goal.returns-in-Ok
 returns-in-Ok g c =
     let s = c.args.self.now in
     let e = c.restart.new.self in
-    let r = c.in-ok-restart.ensures.does in
+    let r = c.in_ok-restart.ensures.does in
     record {
       shape = tt;
       book = λ buf b a.
-          let q = c.in-ok-check-image.ensures (restarted g.D.Device.agrees g.D.Device.meaning g.D.GroupDevice.grouped s.device e _ a.below r) in
-          check_done g.K.KeyRule.rule g.met.K.KeyRule.lawful g.D.Device.agrees g.D.Device.meaning g.D.GroupDevice.grouped s e _ r c.check-image.new.device 261 q.0 buf b a;
+          let q = c.in_ok-check_image.ensures (restarted g.D.Device.agrees g.D.Device.meaning g.D.GroupDevice.grouped s.device e _ a.below r) in
+          check_done g.K.KeyRule.rule g.met.K.KeyRule.lawful g.D.Device.agrees g.D.Device.meaning g.D.GroupDevice.grouped s e _ r c.check_image.new.device 261 q.0 buf b a;
       alone = λ buf o.
-          let q = c.in-ok-check-image.ensures (restarted g.D.Device.agrees g.D.Device.meaning g.D.GroupDevice.grouped s.device e _ o.below r) in
-          let z = check_opens g.K.KeyRule.rule g.met.K.KeyRule.lawful g.D.Device.agrees g.D.Device.meaning g.D.GroupDevice.grouped s e _ r c.check-image.new.device 261 q.0 (λ n f w. (MatchResult-at_ok _ _ _ c.in-Ok.is (q.1 n f w)).0) o (omega (arith, c.page-count.ensures)) in
+          let q = c.in_ok-check_image.ensures (restarted g.D.Device.agrees g.D.Device.meaning g.D.GroupDevice.grouped s.device e _ o.below r) in
+          let z = check_opens g.K.KeyRule.rule g.met.K.KeyRule.lawful g.D.Device.agrees g.D.Device.meaning g.D.GroupDevice.grouped s e _ r c.check_image.new.device 261 q.0 (λ n f w. (MatchResult-at_ok _ _ _ c.in-Ok.is (q.1 n f w)).0) o (omega (arith, c.page_count.ensures)) in
           (z.0, z.1, refl);
     }
 
@@ -59,14 +59,14 @@ pub returns-in-Err : goal.returns-in-Err
 returns-in-Err g c =
     let s = c.args.self.now in
     let e = c.restart.new.self in
-    let r = c.in-ok-restart.ensures.does in
+    let r = c.in_ok-restart.ensures.does in
     record {
       shape = tt;
       book = λ buf b a.
-          let q = c.in-ok-check-image.ensures (restarted g.D.Device.agrees g.D.Device.meaning g.D.GroupDevice.grouped s.device e _ a.below r) in
+          let q = c.in_ok-check_image.ensures (restarted g.D.Device.agrees g.D.Device.meaning g.D.GroupDevice.grouped s.device e _ a.below r) in
           absurd (check_never g.K.KeyRule.rule g.met.K.KeyRule.lawful g.D.Device.agrees g.D.Device.meaning g.D.GroupDevice.grouped s e _ r c.in-Err.condition (λ n f w. MatchResult-at_err _ _ c.in-Err.condition c.in-Err.is (q.1 n f w)) b a);
       alone = λ buf o.
-          let q = c.in-ok-check-image.ensures (restarted g.D.Device.agrees g.D.Device.meaning g.D.GroupDevice.grouped s.device e _ o.below r) in
-          let z = check_refuses g.K.KeyRule.rule g.met.K.KeyRule.lawful g.D.Device.agrees g.D.Device.meaning g.D.GroupDevice.grouped s e _ r c.check-image.new.device 261 c.in-Err.condition q.0 (λ n f w. MatchResult-at_err _ _ c.in-Err.condition c.in-Err.is (q.1 n f w)) o in
+          let q = c.in_ok-check_image.ensures (restarted g.D.Device.agrees g.D.Device.meaning g.D.GroupDevice.grouped s.device e _ o.below r) in
+          let z = check_refuses g.K.KeyRule.rule g.met.K.KeyRule.lawful g.D.Device.agrees g.D.Device.meaning g.D.GroupDevice.grouped s e _ r c.check_image.new.device 261 c.in-Err.condition q.0 (λ n f w. MatchResult-at_err _ _ c.in-Err.condition c.in-Err.is (q.1 n f w)) o in
           (z.0, z.1, refl);
     }
