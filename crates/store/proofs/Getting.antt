@@ -1,23 +1,22 @@
 -- A get against the book.
-use Rattle.std.proofs.Common.{◌≡◌, ℕ, ◌<◌, ◌≤◌, Bool, true, false, cond, ltb, List, ◌++◌, length, drop, Some, None, Option, sym, refl, ap, ◌∙◌, subst, arith, MatchResult}
+use Rattle.std.proofs.Common.{◌≡◌, ℕ, ◌<◌, ◌≤◌, true, false, cond, ltb, List, length, Some, None, Option, sym, refl, ◌∙◌, arith}
 use Rattle.std.proofs.lemmas.Bool.{cond-true, cond-false, lt-ltb, le-ltb}
 use Rattle.device.specs.declared.DeviceFault.{DeviceFault}
-use Rattle.device.specs.Meaning.{State, Meaning, Grouped}
-use Rattle.device.specs.Calls.{GroupCalls, none}
+use Rattle.device.specs.Meaning.{Meaning, Grouped}
+use Rattle.device.specs.Calls.{GroupCalls}
 use Rattle.device.specs.Numbers.{number}
 use Rattle.keys.specs.Rule.{Rule}
 use Rattle.tree.specs.Maps.{Rec}
 use Rattle.tree.specs.Classes.{row_at}
-use Rattle.pages.specs.Reads.{Kept, Failed}
+use Rattle.pages.specs.Reads.{Failed}
 use Rattle.access.specs.declared.lookup.Found.{Found}
 use Rattle.access.specs.Seek.{seek, told, filled, letter_in}
 use Rattle.store.specs.declared.kinds.Phase.{Phase}
 use Rattle.store.specs.declared.kinds.Phase.TheVariants.{Stopped, Idle, Open}
 use Rattle.store.specs.declared.kinds.StoreFault.TheVariants.{Device}
-use Rattle.store.specs.Replies.{Event, get, Reply, got, refused, refused_by, eleven}
-use Rattle.store.specs.Book.{Book, Turned, Turns, map_at, ruled, gets, handed, refuse, stopped, answered, lost}
-use Rattle.store.specs.Agree.{Agrees}
-use Rattle.store.proofs.Images.{A, lost_by, agrees_kept, agrees_failed}
+use Rattle.store.specs.Replies.{get, got, refused, refused_by, eleven}
+use Rattle.store.specs.Book.{Book, Turns, map_at, ruled, gets, handed, refuse, stopped, answered, lost}
+use Rattle.store.proofs.Images.{A, lost_by, agrees_failed}
 
 module _ (R : Rule) (b : Book) (k buf : List ℕ) where
   -- a book that is not stopped looks the key up in its map

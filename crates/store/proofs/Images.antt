@@ -1,20 +1,20 @@
 -- Images that hold a map, and a store that agrees with a book, when the device has only been read.
-use Rattle.std.proofs.Common.{◌≡◌, ℕ, ◌*◌, ◌<◌, ◌≤◌, true, false, ◌⊎◌, List, [], length, Some, None, Option, sym, refl, ap, ◌∙◌, subst, inl, inr, ⊎_elim, arith}
+use Rattle.std.proofs.Common.{◌≡◌, ℕ, ◌<◌, ◌≤◌, true, List, sym, refl, ap, ◌∙◌, subst, inl, inr, arith}
 use Rattle.device.specs.declared.DeviceFault.{DeviceFault}
 use Rattle.device.specs.declared.DeviceFault.TheVariants.{PowerLost}
-use Rattle.device.specs.Meaning.{State, Meaning, Grouped, SoundGroup, Alike, has}
+use Rattle.device.specs.Meaning.{State, Meaning, Grouped, Alike, has}
 use Rattle.device.specs.Numbers.{number}
 use Rattle.device.specs.GroupPromises.{NoEnd}
 use Rattle.device.proofs.Faults.{eleven}
 use Rattle.keys.specs.Rule.{Rule}
 use Rattle.tree.specs.Maps.{Rec}
-use Rattle.pages.specs.Images.{shows, root, root_in}
+use Rattle.pages.specs.Images.{shows, root_in}
 use Rattle.pages.specs.Reads.{Ready, Kept, Failed}
 use Rattle.pages.proofs.Readings.{only_pages}
 use Rattle.store.specs.declared.kinds.Phase.{Phase}
 use Rattle.store.specs.declared.kinds.Phase.TheVariants.{Stopped, Idle, Open}
 use Rattle.store.specs.Book.{Book, map_at, stopped}
-use Rattle.store.specs.Agree.{Keeps, MayStand, FewWait, Running, InPhase, Agrees}
+use Rattle.store.specs.Agree.{Keeps, MayStand, Running, InPhase, Agrees}
 
 pub alike_back : {n : ℕ} {e f : ℕ → State} → Alike n e f → Alike n f e
 alike_back a i h = sym (a i h)

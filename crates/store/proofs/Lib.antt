@@ -2,5 +2,4 @@ pub mod Images
 pub mod Standing
 pub mod Getting
 pub mod Opening
-pub mod Transactions
 pub mod Playing

@@ -1,8 +1,7 @@
 -- A recover: with a book, and without one.
-use Rattle.std.proofs.Common.{◌≡◌, ℕ, ◌+◌, ◌<◌, ◌≤◌, Bool, true, false, cond, eqb, ◌⊎◌, List, [], Some, None, Ok, Err, Option, Result, sym, refl, ap, ◌∙◌, subst, inl, inr, ⊎_elim, arith, MatchResult}
+use Rattle.std.proofs.Common.{◌≡◌, ℕ, ◌≤◌, false, List, Some, None, Ok, Err, Option, sym, refl, subst, inl, inr, ⊎_elim, arith}
 use Rattle.device.specs.declared.DeviceFault.{DeviceFault}
-use Rattle.device.specs.declared.DeviceFault.TheVariants.{PowerLost}
-use Rattle.device.specs.Meaning.{State, Meaning, Grouped, Alike}
+use Rattle.device.specs.Meaning.{State, Meaning, Grouped}
 use Rattle.device.specs.Numbers.{number}
 use Rattle.device.specs.Calls.{restarts, none, more, GroupCalls}
 use Rattle.device.specs.Clauses.{GroupDoes}
@@ -11,20 +10,18 @@ use Rattle.keys.specs.Rule.{Rule, Lawful}
 use Rattle.tree.specs.Maps.{Rec}
 use Rattle.pages.specs.declared.root.Condition.{Condition}
 use Rattle.pages.specs.declared.root.Condition.TheVariants.{RootPage, DirectoryPages, UsedEntries, BucketPages, Placement, Tree}
-use Rattle.pages.specs.Images.{root, number_of, AllMet, Meets, Lowest, WellFormed}
-use Rattle.pages.specs.Reads.{Ready, Kept, Failed, Shows, Seen}
+use Rattle.pages.specs.Images.{root, AllMet, Meets, Lowest, WellFormed}
+use Rattle.pages.specs.Reads.{Kept, Failed, Shows, Seen}
 use Rattle.pages.proofs.Readings.{some_held}
 use Rattle.access.proofs.Making.{restarted}
-use Rattle.store.specs.declared.kinds.Phase.{Phase}
-use Rattle.store.specs.declared.kinds.Phase.TheVariants.{Stopped, Idle, Open}
-use Rattle.store.specs.declared.kinds.StoreFault.{StoreFault}
+use Rattle.store.specs.declared.kinds.Phase.TheVariants.{Idle}
 use Rattle.store.specs.declared.kinds.StoreFault.TheVariants.{NotWellFormed, Device}
 use Rattle.store.specs.declared.store.Store.{Store}
-use Rattle.store.specs.Replies.{Event, recover, Reply, done, refused, refused_by, eleven}
+use Rattle.store.specs.Replies.{recover, done, refused_by, eleven}
 use Rattle.store.specs.Book.{Book, Turns, Fair, stood, lost, stopped, recovered, opened}
-use Rattle.store.specs.Agree.{Keeps, MayStand, Agrees, Faithful, Unopened}
-use Rattle.store.specs.Clauses.{after, Follows, Opens, NotOpened, SameCounts, Touches}
-use Rattle.store.proofs.Images.{A, alike_back, lost_by, ends_kept, agrees_kept, agrees_failed}
+use Rattle.store.specs.Agree.{Keeps, Faithful, Unopened}
+use Rattle.store.specs.Clauses.{after, Opens}
+use Rattle.store.proofs.Images.{A, lost_by, ends_kept, agrees_kept, agrees_failed}
 use Rattle.store.proofs.Standing.{idle_over}
 
 -- the store s, over another device

@@ -1,16 +1,16 @@
 -- One call of a store, by its phase and its event.
-use Rattle.std.proofs.Common.{◌≡◌, ℕ, Bool, false, cond, List, [], ◌∷◌, length, Ok, Err, Result, sym, refl, ap, ◌∙◌, subst, arith}
+use Rattle.std.proofs.Common.{◌≡◌, ℕ, Bool, false, cond, List, [], ◌∷◌, length, Ok, Err, Result, refl, ap, subst, arith}
 use Rattle.device.specs.Meaning.{Meaning, Grouped}
 use Rattle.keys.specs.Rule.{Rule}
 use Rattle.store.specs.declared.kinds.Phase.{Phase}
-use Rattle.store.specs.declared.kinds.Phase.TheVariants.{Stopped, Idle, Open}
+use Rattle.store.specs.declared.kinds.Phase.TheVariants.{Stopped}
 use Rattle.store.specs.declared.kinds.Call.{Call}
 use Rattle.store.specs.declared.kinds.Call.TheVariants.{Get, Recover}
 use Rattle.store.specs.declared.kinds.Answer.{Answer}
 use Rattle.store.specs.declared.kinds.Answer.TheVariants.{Done, Got}
 use Rattle.store.specs.declared.kinds.StoreFault.{StoreFault}
 use Rattle.store.specs.declared.store.Store.{Store}
-use Rattle.store.specs.Replies.{Event, get, recover, event_of, Reply, refused, replied, eleven}
+use Rattle.store.specs.Replies.{Event, get, event_of, Reply, refused, replied, eleven}
 use Rattle.store.specs.Clauses.{after, Alone}
 use Rattle.store.specs.Book.{Book, Turns, ruled, answered}
 

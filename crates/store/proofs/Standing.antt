@@ -1,11 +1,10 @@
 -- A store that is idle over a device which shows an image of its map.
-use Rattle.std.proofs.Common.{◌≡◌, ℕ, ◌+◌, ◌<◌, ◌≤◌, true, false, List, [], length, None, sym, refl, ap, ◌∙◌, subst, inl, arith}
+use Rattle.std.proofs.Common.{◌≡◌, ℕ, ◌<◌, ◌≤◌, true, List, [], None, sym, refl, ap, ◌∙◌, subst, inl, arith}
 use Rattle.std.proofs.lemmas.Bool.{false≢true}
 use Rattle.device.specs.Meaning.{State, Meaning, Grouped, Alike, has}
 use Rattle.keys.specs.Rule.{Rule}
 use Rattle.tree.specs.Maps.{Rec}
-use Rattle.pages.specs.Formats.{Empty}
-use Rattle.pages.specs.Images.{shows, root_in}
+use Rattle.pages.specs.Images.{shows}
 use Rattle.pages.specs.Reads.{Ready}
 use Rattle.pages.proofs.Checking.{root_is}
 use Rattle.pages.proofs.Emptied.{empty_formed}

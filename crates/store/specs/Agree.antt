@@ -1,5 +1,5 @@
 -- How a store agrees with a book.
-use Rattle.std.specs.Prelude.{◌≡◌, ℕ, ◌*◌, ◌<◌, ◌≤◌, true, false, ◌⊎◌, List, [], length, Some, None, Option}
+use Rattle.std.specs.Prelude.{◌≡◌, ℕ, ◌*◌, ◌<◌, ◌≤◌, true, false, ◌⊎◌, List, length, Some, None}
 use Rattle.device.specs.Meaning.{State, Meaning, Grouped, SoundGroup, has}
 use Rattle.keys.specs.Rule.{Rule}
 use Rattle.tree.specs.Maps.{Rec}

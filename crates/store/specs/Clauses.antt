@@ -1,15 +1,14 @@
 -- What the calls of a store promise, from the store s to the store s': with a book, and without one.
-use Rattle.std.specs.Prelude.{◌≡◌, ℕ, ◌-◌, ◌<◌, ◌≤◌, min, Bool, true, false, cond, List, [], MatchBool, ◌==◌}
+use Rattle.std.specs.Prelude.{◌≡◌, ℕ, ◌-◌, ◌<◌, min, cond, List, [], MatchBool, ◌==◌}
 use Rattle.device.specs.Meaning.{State, Meaning, Grouped}
 use Rattle.device.specs.Calls.{GroupCalls}
 use Rattle.keys.specs.Rule.{Rule}
 use Rattle.tree.specs.Maps.{Rec}
 use Rattle.pages.specs.declared.root.Condition.{Condition}
 use Rattle.pages.specs.Images.{root, number_of, Lowest, WellFormed}
-use Rattle.store.specs.declared.kinds.Phase.{Phase}
 use Rattle.store.specs.declared.kinds.Phase.TheVariants.{Stopped}
 use Rattle.store.specs.declared.store.Store.{Store}
-use Rattle.store.specs.Replies.{Event, begin, put, delete, get, commit, abort, recover, Reply, begun, done, got, refused, eleven}
+use Rattle.store.specs.Replies.{Event, get, recover, Reply, done, got, refused, eleven}
 use Rattle.store.specs.Book.{Book, Turns, opened}
 use Rattle.store.specs.Agree.{Faithful, Unopened}
 
@@ -51,24 +50,17 @@ module _ {D K : Type 0} (R : Rule) (agrees : D → Type 0) (meaning : D → Mean
   abbrev pub Opens : Store D K → Reply → Store D K → Type 0
   Opens s done s' =
       (e : ℕ → State) × (m : List Rec) × (grouped s.device).ends e × WellFormed R (meaning s.device).count e m × Faithful R agrees meaning grouped s' (opened m (root e).limit s.counter s.changes)
-  Opens s (begun n) s' = ⊥
   Opens s (got l d n) s' = ⊥
   Opens s (refused k c) s' = NotOpened s k c s'
 
   -- the calls of a store with no book
   abbrev pub Alone : Event → Store D K → List ℕ → Reply → List ℕ → Store D K → Type 0
-  Alone begin s buf a buf' s' = Rests s buf a buf' s'
-  Alone (put t l k v day) s buf a buf' s' = Rests s buf a buf' s'
-  Alone (delete t k) s buf a buf' s' = Rests s buf a buf' s'
   Alone (get k) s buf a buf' s' = Rests s buf a buf' s'
-  Alone (commit t) s buf a buf' s' = Rests s buf a buf' s'
-  Alone (abort t) s buf a buf' s' = Rests s buf a buf' s'
   Alone recover s buf a buf' s' = Unopened agrees s → Touches s a s' × Opens s a s' × (buf' ≡ buf)
 
   -- a format of any store
   abbrev pub Formats : Store D K → Reply → Store D K → Type 0
   Formats s done s' = Faithful R agrees meaning grouped s' (opened [] (most (meaning s.device).count) s.counter 0) × Touches s done s'
-  Formats s (begun n) s' = ⊥
   Formats s (got l d n) s' = ⊥
   Formats s (refused k c) s' =
       MatchBool (k == 20) (((meaning s.device).count < 6) × (s' ≡ s)) (MatchBool (k == 11) (Unopened agrees s' × (s'.counter ≡ s.counter) × Touches s (refused 11 0) s') ⊥)

@@ -2,7 +2,7 @@
 ghost use Rattle.std.specs.Prelude.{◌≡◌, ℕ, List, [], ◌≢◌};
 ghost use Rattle.std.specs.Borrow.{sem, follows};
 ghost use Rattle.store.specs.contracts.store.Store.{the_row};
-ghost use Rattle.store.specs.Replies.{begin, put, delete, get, commit, abort, recover, event_of, replied, done_or, got_or, Shaped};
+ghost use Rattle.store.specs.Replies.{get, recover, event_of, replied, done_or, got_or, Shaped};
 ghost use Rattle.store.specs.Agree.{Unopened};
 ghost use Rattle.store.specs.Clauses.{most, after, Follows, Rests, Alone, Formats};
 
@@ -100,49 +100,6 @@ impl<D: GroupDevice, K: KeyRule> Store<D, K> {
         }
     }
 
-    /// A begin on a store that is idle.
-    fn begin_idle(&mut self) -> Result<Answer, StoreFault>
-        requires { self.old.phase ≡ Phase.Idle }
-        ensures shape { Shaped begin result }
-        ensures book { (buf : List ℕ) → Follows K.KeyRule.rule D.Device.agrees D.Device.meaning D.GroupDevice.grouped begin self.old buf (replied result) buf (after (replied result) self.new) }
-    {
-        if self.counter == u32::MAX {
-            return Err(StoreFault::CounterFull);
-        }
-        self.counter += 1;
-        self.changes = 0;
-        self.phase = Phase::Open;
-        Ok(Answer::Begun(self.counter))
-    }
-
-    /// A commit while a transaction is open.
-    fn commit_open(&mut self, token: u32) -> Result<Answer, StoreFault>
-        requires { self.old.phase ≡ Phase.Open }
-        ensures shape { Shaped (commit token) result }
-        ensures book { (buf : List ℕ) → Follows K.KeyRule.rule D.Device.agrees D.Device.meaning D.GroupDevice.grouped (commit token) self.old buf (replied result) buf (after (replied result) self.new) }
-    {
-        if token != self.counter {
-            return Err(StoreFault::OtherToken);
-        }
-        GroupDevice::sync(&mut self.device)?;
-        self.phase = Phase::Idle;
-        Ok(Answer::Done)
-    }
-
-    /// An abort while a transaction is open.
-    fn abort_open(&mut self, token: u32) -> Result<Answer, StoreFault>
-        requires { self.old.phase ≡ Phase.Open }
-        ensures shape { Shaped (abort token) result }
-        ensures book { (buf : List ℕ) → Follows K.KeyRule.rule D.Device.agrees D.Device.meaning D.GroupDevice.grouped (abort token) self.old buf (replied result) buf (after (replied result) self.new) }
-    {
-        if token != self.counter {
-            return Err(StoreFault::OtherToken);
-        }
-        GroupDevice::discard(&mut self.device)?;
-        self.phase = Phase::Idle;
-        Ok(Answer::Done)
-    }
-
     /// A recover, in any phase.
     fn recover_any(&mut self) -> Result<Answer, StoreFault>
         ensures shape { Shaped recover result }
@@ -171,13 +128,7 @@ impl<D: GroupDevice, K: KeyRule> Store<D, K> {
         match (self.phase, call) {
             (_, Call::Recover) => self.recover_any(),
             (Phase::Stopped, _) => Err(StoreFault::NotRunning),
-            (_, Call::Get(key)) => self.get_running(key, buf),
-            (Phase::Idle, Call::Begin) => self.begin_idle(),
-            (Phase::Open, Call::Begin) => Err(StoreFault::TransactionOpen),
-            (Phase::Open, Call::Commit(token)) => self.commit_open(token),
-            (Phase::Open, Call::Abort(token)) => self.abort_open(token),
-            (Phase::Idle, _) => Err(StoreFault::OtherToken),
-            (Phase::Open, _) => Err(StoreFault::OtherToken),
+            (Phase::Idle | Phase::Open, Call::Get(key)) => self.get_running(key, buf),
         }
     }
 
@@ -203,7 +154,7 @@ impl<D: GroupDevice, K: KeyRule> Store<D, K> {
     {
         match self.step(Call::Get(key), buf)? {
             Answer::Got(found) => Ok(found),
-            Answer::Begun(_) | Answer::Done => unreachable(),
+            Answer::Done => unreachable(),
         }
     }
 
@@ -215,7 +166,7 @@ impl<D: GroupDevice, K: KeyRule> Store<D, K> {
         let mut none = [0u8; 0];
         match self.step(recover_call(), &mut none)? {
             Answer::Done => Ok(()),
-            Answer::Begun(_) | Answer::Got(_) => unreachable(),
+            Answer::Got(_) => unreachable(),
         }
     }
 }

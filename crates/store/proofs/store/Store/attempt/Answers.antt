@@ -1,4 +1,4 @@
-use Rattle.std.proofs.Common.{◌≡◌, sym, refl, ap, ◌∙◌, subst}
+use Rattle.std.proofs.Common.{sym, ap, ◌∙◌, subst}
 use Rattle.device.specs.Calls.{none}
 use Rattle.store.specs.Replies.{Event, event_of, replied, Shaped}
 use Rattle.store.specs.Clauses.{after, Follows, Alone}
