@@ -1,6 +1,6 @@
 -- The record of a key: in a map, in the bucket of its hash, and in the pages.
 use Rattle.std.proofs.Common.{◌≡◌, ℕ, ◌+◌, ◌-◌, ◌/◌, ◌%◌, ◌^◌, ◌<◌, ◌≤◌, min, Bool, true, false, cond, eqb, ◌⊎◌, List, [], ◌∷◌, ◌++◌, length, drop, IfSome, Some, None, Option, sym, refl, ap, ◌∙◌, subst, inl, inr, ⊎_elim, arith, pow_mono, MatchOption}
-use Rattle.std.specs.List.{AllByRecursion as All}
+use Rattle.std.specs.List.{AllByRecursion}
 use Rattle.std.proofs.lemmas.Bool.{both_ways, cases_Bool, cond-true, cond-false, and_parts, leb-true, false≢true}
 use Rattle.device.specs.Meaning.{State, bytes}
 use Rattle.keys.specs.Rule.{Rule, Lawful}
@@ -35,13 +35,13 @@ seek_none R k (x ∷ m) f = cond-false (R.same k x.key) (Some x) (seek R k m) (f
 
 module _ (R : Rule) (law : Lawful R) (k : List ℕ) (valid : R.valid k ≡ true) where
   -- no two records of a map have the key
-  apart : (x y : Rec) (m : List Rec) → R.valid y.key ≡ true → Valid R m → All (λ s. R.same y.key s.key ≡ false) m → In x m → R.same k y.key ≡ true → R.same k x.key ≡ true → ⊥
+  apart : (x y : Rec) (m : List Rec) → R.valid y.key ≡ true → Valid R m → AllByRecursion (λ s. R.same y.key s.key ≡ false) m → In x m → R.same k y.key ≡ true → R.same k x.key ≡ true → ⊥
   apart x y m vy vm a i hy hx =
       let vx = all_of (λ r. R.valid r.key ≡ true) x m vm i in
       both_ways (R.same y.key x.key) (all_of (λ s. R.same y.key s.key ≡ false) x m a i)
       (law.transitive y.key k x.key vy valid vx (law.symmetric k y.key valid vy hy) hx)
 
-  at_head : (x y : Rec) (m : List Rec) → R.valid y.key ≡ true → Valid R m → All (λ s. R.same y.key s.key ≡ false) m → (y ≡ x) ⊎ In x m → R.same k y.key ≡ true → R.same k x.key ≡ true → y ≡ x
+  at_head : (x y : Rec) (m : List Rec) → R.valid y.key ≡ true → Valid R m → AllByRecursion (λ s. R.same y.key s.key ≡ false) m → (y ≡ x) ⊎ In x m → R.same k y.key ≡ true → R.same k x.key ≡ true → y ≡ x
   at_head x y m vy vm a (inl e) hy hx = e
   at_head x y m vy vm a (inr i) hy hx = absurd (apart x y m vy vm a i hy hx)
 
@@ -141,7 +141,7 @@ module _ (R : Rule) (law : Lawful R) (n : ℕ) (f : ℕ → State) (m : List Rec
   unfolding depths recs
   bucket = (formed_to R law n f m formed).2.buckets home home_below
 
-  all_fine : All (Fine R.valid) (recs home)
+  all_fine : AllByRecursion (Fine R.valid) (recs home)
   all_fine = fits.fine home home_below
 
   -- the key's bucket has the records of the map that have its hash
@@ -162,7 +162,7 @@ module _ (R : Rule) (law : Lawful R) (n : ℕ) (f : ℕ → State) (m : List Rec
 
   -- what is told of a bucket's page is told of the map
   bucket_told : (out out' : List ℕ) (o : Option Found)
-      → MatchOption o (All (λ x. R.same k x.key ≡ false) (recs home) × (out' ≡ out)) (λ g. (x : Rec) × In x (recs home) × (R.same k x.key ≡ true) × (g ≡ found_of x) × (out' ≡ filled (Some x) out))
+      → MatchOption o (AllByRecursion (λ x. R.same k x.key ≡ false) (recs home) × (out' ≡ out)) (λ g. (x : Rec) × In x (recs home) × (R.same k x.key ≡ true) × (g ≡ found_of x) × (out' ≡ filled (Some x) out))
       → (o ≡ told (seek R k m)) × (out' ≡ filled (seek R k m) out)
   bucket_told out out' None (a, e) =
       let s : seek R k m ≡ None = seek_none R k m (λ x i. ⊎_elim (λ t. all_of (λ y. R.same k y.key ≡ false) x (recs home) a (to_bucket x i t)) (λ h. h) (cases_Bool (R.same k x.key))) in
@@ -172,8 +172,8 @@ module _ (R : Rule) (law : Lawful R) (n : ℕ) (f : ℕ → State) (m : List Rec
       (ap (λ (y : Found). Some y) e ∙ ap told (sym s), b ∙ ap (λ (y : Option Rec). filled y out) (sym s))
 
   pub look_told : (p : ℕ) (b : Bool) (buf page : List ℕ) → p ≡ entry f home → PageRead p buf page f b → (out out' : List ℕ) (o : Option Found) → 120 ≤ length out
-      → ((d : ℕ) (rs : List Rec) → BucketIs page d rs → All (Fine R.valid) rs → 120 ≤ length out
-      → MatchOption o (All (λ x. R.same k x.key ≡ false) rs × (out' ≡ out)) (λ g. (x : Rec) × In x rs × (R.same k x.key ≡ true) × (g ≡ found_of x) × (out' ≡ filled (Some x) out)))
+      → ((d : ℕ) (rs : List Rec) → BucketIs page d rs → AllByRecursion (Fine R.valid) rs → 120 ≤ length out
+      → MatchOption o (AllByRecursion (λ x. R.same k x.key ≡ false) rs × (out' ≡ out)) (λ g. (x : Rec) × In x rs × (R.same k x.key ≡ true) × (g ≡ found_of x) × (out' ≡ filled (Some x) out)))
       → (o ≡ told (seek R k m)) × (out' ≡ filled (seek R k m) out)
   look_told p b buf page e r out out' o l c =
       let s = page_shown b buf page (subst (λ q. PageRead q buf page f b) e r) in

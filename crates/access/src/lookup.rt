@@ -1,6 +1,6 @@
 //! A key, looked up in the pages that a device shows.
 ghost use Rattle.std.specs.Prelude.{◌≡◌, ℕ, ◌<◌, ◌≤◌, min, true, false, List, length, Some, MatchOption, OnErr};
-ghost use Rattle.std.specs.List.{AllByRecursion as All};
+ghost use Rattle.std.specs.List.{AllByRecursion};
 ghost use Rattle.tree.specs.Classes.{row_at};
 ghost use Rattle.tree.specs.Maps.{Rec};
 ghost use Rattle.tree.specs.Members.{In};
@@ -59,7 +59,7 @@ fn letter_of(class: u8) -> u8
 
 /// Looks a key up in a bucket's page, and puts the value of its record at the front of the buffer.
 fn copy_found<K: KeyRule>(page: &[u8; 252], key: &[u8], buf: &mut [u8]) -> Option<Found>
-    ensures { (d : ℕ) (rs : List Rec) → BucketIs page.now d rs → All (Fine K.KeyRule.rule.valid) rs → 120 ≤ length buf.old → MatchOption result (All (λ x. K.KeyRule.rule.same key.now x.key ≡ false) rs × (buf.new ≡ buf.old)) (λ f. (x : Rec) × In x rs × (K.KeyRule.rule.same key.now x.key ≡ true) × (f ≡ found_of x) × (buf.new ≡ filled (Some x) buf.old)) }
+    ensures { (d : ℕ) (rs : List Rec) → BucketIs page.now d rs → AllByRecursion (Fine K.KeyRule.rule.valid) rs → 120 ≤ length buf.old → MatchOption result (AllByRecursion (λ x. K.KeyRule.rule.same key.now x.key ≡ false) rs × (buf.new ≡ buf.old)) (λ f. (x : Rec) × In x rs × (K.KeyRule.rule.same key.now x.key ≡ true) × (f ≡ found_of x) × (buf.new ≡ filled (Some x) buf.old)) }
 {
     let Some((_, bytes)) = pages::read_bucket::<K>(page) else {
         return None;

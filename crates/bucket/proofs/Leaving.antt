@@ -1,6 +1,6 @@
 -- What a change leaves in the buckets of its key.
 use Rattle.std.proofs.Common.{◌≡◌, ℕ, zero, suc, ◌+◌, ◌<◌, ◌≤◌, true, false, not, ◌&&◌, eqb, leb, List, [], ◌∷◌, ◌++◌, length, Some, sum_by, sym, refl, ap, ◌∙◌, subst, inl, inr, ⊎_elim, arith, lit≤}
-use Rattle.std.specs.List.{AllByRecursion as All}
+use Rattle.std.specs.List.{AllByRecursion}
 use Rattle.std.proofs.ByRecursion.{all_kept_by, All-append, All-weaker}
 use Rattle.std.proofs.lemmas.List.Sums.{sum_by-append}
 use Rattle.std.proofs.lemmas.Bool.{eq-eqb, eqb-true, and_parts, and_from, not-true, not_from_false, cases_Bool, both_ways}
@@ -48,7 +48,7 @@ module _ (R : Rule) where
       kept_in (stays R k n p) x rs i (and_from (eqb (pre 32 (hashed R x) n) p) (not (R.same k x.key)) (eq-eqb (pre 32 (hashed R x) n) p e) (not_from_false (R.same k x.key) f))
 
   -- what holds of each record holds of each that stays
-  pub sift_all : (P : Rec → Type 0) (k : List ℕ) (n p : ℕ) (rs : List Rec) → All P rs → All P (sift R k n p rs)
+  pub sift_all : (P : Rec → Type 0) (k : List ℕ) (n p : ℕ) (rs : List Rec) → AllByRecursion P rs → AllByRecursion P (sift R k n p rs)
   sift_all P k n p rs a = all_kept_by (stays R k n p) P rs a
 
   pub sift_sound : (k : List ℕ) (n p : ℕ) (rs : List Rec) → Sound R rs → Sound R (sift R k n p rs)

@@ -1,6 +1,6 @@
 -- The laws of what a change leaves in buckets, under a key rule R, as contracts cite them. A change c is of the key key_of c.
 use Rattle.std.specs.Prelude.{◌≡◌, ℕ, suc, ◌+◌, ◌<◌, ◌≤◌, true, ◌⊎◌, List, ◌++◌, length, Some, None, sum_by, ◌≢◌}
-use Rattle.std.specs.List.{AllByRecursion as All}
+use Rattle.std.specs.List.{AllByRecursion}
 use Rattle.keys.specs.Rule.{Rule}
 use Rattle.tree.specs.Prefix.{pre, sib}
 use Rattle.tree.specs.Maps.{Rec, size, Sound, Change, key_of, added, new_of, made}
@@ -47,8 +47,8 @@ StillApart R = (c : Change) (m rs : List Rec) (l n p : ℕ) → Before R c m l r
 
 -- the records of both may stand in a page, where those before and those that the change brings may
 abbrev pub StillFine : Rule → Type 0
-StillFine R = (c : Change) (rs : List Rec) (n p : ℕ) → All (Fine R.valid) rs
-    → All (Fine R.valid) (sift R (key_of c) n p rs) × (All (Fine R.valid) (new_of c) → All (Fine R.valid) (sift R (key_of c) n p rs ++ new_of c))
+StillFine R = (c : Change) (rs : List Rec) (n p : ℕ) → AllByRecursion (Fine R.valid) rs
+    → AllByRecursion (Fine R.valid) (sift R (key_of c) n p rs) × (AllByRecursion (Fine R.valid) (new_of c) → AllByRecursion (Fine R.valid) (sift R (key_of c) n p rs ++ new_of c))
 
 -- entry i of a directory of w bits, after the bucket of a change was split so: it does not begin with that bucket and is as it was;
 -- or it leaves the path of the hash behind j bits, and leads to what is left in the sibling there; or it leads to the key's own bucket

@@ -1,6 +1,6 @@
 -- What a change of a key leaves in the buckets of its hash.
 use Rattle.std.specs.Prelude.{◌≡◌, ℕ, ◌+◌, ◌<◌, ◌≤◌, Bool, true, false, not, ◌&&◌, List, [], ◌∷◌, Some, None, sum_by, filter, Option, MatchOption, ◌==◌}
-use Rattle.std.specs.List.{AllByRecursion as All}
+use Rattle.std.specs.List.{AllByRecursion}
 use Rattle.keys.specs.Rule.{Rule}
 use Rattle.tree.specs.Prefix.{pre}
 use Rattle.tree.specs.Members.{In}
@@ -12,7 +12,7 @@ use Rattle.pages.specs.Records.{viewed}
 
 -- no record has a key that is the same as k
 abbrev pub LacksKey : Rule → List ℕ → List Rec → Type 0
-LacksKey R k rs = All (λ x. R.same k x.key ≡ false) rs
+LacksKey R k rs = AllByRecursion (λ x. R.same k x.key ≡ false) rs
 
 -- some record has a key that is the same as k
 abbrev pub HasKey : Rule → List ℕ → List Rec → Type 0

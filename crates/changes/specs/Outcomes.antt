@@ -2,7 +2,7 @@
 use Rattle.std.specs.Prelude.{◌≡◌, ℕ, ◌<◌, ◌≤◌, true, ◌⊎◌, List, length, Some, None, Option, Result, MatchResult}
 use Rattle.device.specs.declared.DeviceFault.{DeviceFault}
 use Rattle.device.specs.Meaning.{Meaning, Grouped}
-use Rattle.device.specs.Numbers.{number as faultNumber}
+use Rattle.device.specs.Numbers.{number as fault_number}
 use Rattle.keys.specs.Rule.{Rule}
 use Rattle.tree.specs.Prefix.{pre}
 use Rattle.tree.specs.Maps.{Rec, Change, Put, Delete, key_of, made}
@@ -62,4 +62,4 @@ module _ {D : Type 0} (R : Rule) (agrees : D → Type 0) (meaning : D → Meanin
 
   -- the answer r to a change c of the map m: made, denied, or 11
   abbrev pub Outcome : Change → List Rec → D → Result (Result (Unit {0}) Denial) DeviceFault → D → Type 0
-  Outcome c m d r e = MatchResult r (λ x. MatchResult x (λ _. Changed c m d e) (λ w. NotChanged c m w d e)) (λ f. (faultNumber f ≡ 11) × Cut agrees meaning grouped d e)
+  Outcome c m d r e = MatchResult r (λ x. MatchResult x (λ _. Changed c m d e) (λ w. NotChanged c m w d e)) (λ f. (fault_number f ≡ 11) × Cut agrees meaning grouped d e)

@@ -1,6 +1,6 @@
 -- The pages that the entries name, gathered one by one.
 use Rattle.std.proofs.Common.{◌≡◌, ℕ, ◌+◌, ◌<◌, ◌≤◌, Bool, true, false, ◌&&◌, List, [], ◌∷◌, length, get_or, set, MatchBool, sym, ap, ◌∙◌, subst, arith, length-append, below_more}
-use Rattle.std.specs.List.{AllByRecursion as All}
+use Rattle.std.specs.List.{AllByRecursion}
 use Rattle.std.proofs.lemmas.List.{get_or-set_same, get_or-set_other}
 use Rattle.device.specs.Meaning.{State, spoiled}
 use Rattle.tree.specs.Maps.{Rec}
@@ -83,5 +83,5 @@ module _ (R : Rule) (P : ℕ → List ℕ) (w : ℕ) where
   stands_more a r D i b e h p s =
       subst (λ v. MatchBool v (AllStand R P (at (set D i b.depth)) w (i + 1)) (AllStand R P (at (set D i b.depth)) w (i + 1) → ⊥)) (sym e) (told a b.placed D i b h p p.placed s)
 
-  pub not_bucket : (i n : ℕ) → i < n → ((d : ℕ) (rs : List Rec) → BucketIs (P i) d rs → All (Fine R.valid) rs → ⊥) → AllBuckets R P n → ⊥
+  pub not_bucket : (i n : ℕ) → i < n → ((d : ℕ) (rs : List Rec) → BucketIs (P i) d rs → AllByRecursion (Fine R.valid) rs → ⊥) → AllBuckets R P n → ⊥
   not_bucket i n h un a = let b = a i h in un b.0 b.1 b.2 b.3

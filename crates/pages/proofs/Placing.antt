@@ -1,6 +1,6 @@
 -- A walk that tests where records stand.
 use Rattle.std.proofs.Common.{◌≡◌, ℕ, false, List, ◌∷◌, ◌++◌, sym, refl, subst, inl}
-use Rattle.std.specs.List.{AllByRecursion as All}
+use Rattle.std.specs.List.{AllByRecursion}
 use Rattle.tree.specs.Prefix.{pre}
 use Rattle.tree.specs.Maps.{Rec}
 use Rattle.keys.specs.Rule.{Rule}
@@ -27,7 +27,7 @@ module _ (R : Rule) (d p : ℕ) where
       (o.0, o.2, (λ a. k.2 (subst (RecordsPlaced R d p) (sym o.1) a)), λ a. subst (RecordsPlaced R d p) o.1 (k.3 a))
 
   pub placing_more : (bs left after : List ℕ) (x : Rec) → left ≡ record_bytes x ++ after → pre 32 (R.hash x.key) d ≡ p
-      → ((rest : List Rec) → after ≡ records rest → All (λ s. R.same x.key s.key ≡ false) rest) → Placing bs left → Placing bs after
+      → ((rest : List Rec) → after ≡ records rest → AllByRecursion (λ s. R.same x.key s.key ≡ false) rest) → Placing bs left → Placing bs after
   placing_more bs left after x e h a c = λ rs r.
       let k = placing_next bs left after x e c rs r in
       (k.0, k.1, (λ q. k.2 ((h, q.0), (a k.0 k.1, q.1))), λ q. let w = k.3 q in (w.0.1, w.1.1))

@@ -1,6 +1,6 @@
 -- An image is read in one way, and what it holds is the tree's.
 use Rattle.std.proofs.Common.{◌≡◌, ℕ, zero, suc, ◌+◌, ◌-◌, ◌*◌, ◌/◌, ◌%◌, ◌^◌, ◌<◌, ◌≤◌, Bool, true, false, cond, ◌&&◌, eqb, leb, ◌⊎◌, List, [], ◌∷◌, ◌++◌, length, sym, refl, ap, ◌∙◌, subst, ap₂, inl, inr, ⊎_elim, arith, pow_mono}
-use Rattle.std.specs.List.{AllByRecursion as All}
+use Rattle.std.specs.List.{AllByRecursion}
 use Rattle.std.proofs.lemmas.Bool.{cases_lt, cases_Bool, eqb-true, cond-true, cond-false}
 use Rattle.device.specs.Meaning.{State, Alike}
 use Rattle.tree.specs.Prefix.{pre}
@@ -43,10 +43,10 @@ module _ (K : Rule) (e : ℕ → State) (w : W4 K e) where
   some_reading = ((λ i. depth_at i (cases_lt i (wide e))), (λ i. recs_at i (cases_lt i (wide e))), λ i l. read_at i (cases_lt i (wide e)) l)
 
   -- the records of any reading may stand in a page
-  pub all_fine : (d : ℕ → ℕ) (recs : ℕ → List Rec) → ReadAs e d recs → (i : ℕ) → i < wide e → All (Fine K.valid) (recs i)
+  pub all_fine : (d : ℕ → ℕ) (recs : ℕ → List Rec) → ReadAs e d recs → (i : ℕ) → i < wide e → AllByRecursion (Fine K.valid) (recs i)
   all_fine d recs r i h =
       let b = w i h in
-      subst (All (Fine K.valid)) (bucket_one (named e i) b.0 (d i) b.1 (recs i) b.2 (r i h)).1 b.3
+      subst (AllByRecursion (Fine K.valid)) (bucket_one (named e i) b.0 (d i) b.1 (recs i) b.2 (r i h)).1 b.3
 
 pub gathered_same : {X : Type 0} (f g : ℕ → List X) (n : ℕ) → ((j : ℕ) → j < n → f j ≡ g j) → gathered f n ≡ gathered g n
 unfolding gathered
@@ -244,7 +244,7 @@ module _ (K : Rule) (n : ℕ) (e e' : ℕ → State) (al : Alike n e e') (a : Al
               only = λ j l q. let l0 = back_wide j l in subst (λ (r : Root). pre r.depth j d ≡ pre r.depth i d) roots (p.only j l0 (ent j (omega (arith, l0, small)) ∙ q ∙ sym qi));
               every = λ j l q. let l0 = back_wide j l in
                   sym (ent j (omega (arith, l0, small))) ∙ p.every j l0 (subst (λ (r : Root). pre r.depth j d ≡ pre r.depth i d) (sym roots) q) ∙ qi;
-              hashes = subst (λ (r : Root). All (λ (x : Rec). pre 32 (K.hash x.key) d ≡ pre r.depth i d) rs) roots p.hashes;
+              hashes = subst (λ (r : Root). AllByRecursion (λ (x : Rec). pre 32 (K.hash x.key) d ≡ pre r.depth i d) rs) roots p.hashes;
               apart = p.apart;
             };
         sixth = λ d recs rd.

@@ -1,6 +1,6 @@
 -- A walk over the records of a bucket.
 use Rattle.std.proofs.Common.{◌≡◌, ℕ, ◌+◌, ◌-◌, Bool, true, false, List, [], ◌∷◌, ◌++◌, length, sym, refl, ap, ◌∙◌, subst, arith, length-append}
-use Rattle.std.specs.List.{AllByRecursion as All}
+use Rattle.std.specs.List.{AllByRecursion}
 use Rattle.std.proofs.lemmas.List.{append_assoc, nil_from_length}
 use Rattle.tree.specs.Maps.{Rec, size}
 use Rattle.pages.specs.Records.{Fine, record_bytes, records, FoundAt}
@@ -27,7 +27,7 @@ shorter left after x e = omega (arith, ap length e, length-append (record_bytes 
 module _ (valid : List ℕ → Bool) where
   -- bytes that are records that may stand in a page
   abbrev pub Good : List ℕ → Type 0
-  Good bs = (rs : List Rec) × (bs ≡ records rs) × All (Fine valid) rs
+  Good bs = (rs : List Rec) × (bs ≡ records rs) × AllByRecursion (Fine valid) rs
 
   pub good_nil : (left : List ℕ) → length left ≡ 0 → Good left
   good_nil left e = ([], nil_from_length left e, tt)
@@ -38,7 +38,7 @@ module _ (valid : List ℕ → Bool) where
   pub good_less : (left after : List ℕ) (x : Rec) → left ≡ record_bytes x ++ after → Good left → Fine valid x × Good after
   good_less left after x e g =
       let o = one_more left after x g.0 e g.1 in
-      let a : All (Fine valid) (x ∷ o.0) = subst (All (Fine valid)) o.1 g.2 in
+      let a : AllByRecursion (Fine valid) (x ∷ o.0) = subst (AllByRecursion (Fine valid)) o.1 g.2 in
       (a.0, (o.0, o.2, a.1))
 
   pub good_none : (left : List ℕ) → (length left ≡ 0 → ⊥) → ((x : Rec) (rest : List ℕ) → left ≡ record_bytes x ++ rest → ⊥) → Good left → ⊥
@@ -67,9 +67,9 @@ counted_all bs left n un c rs r =
 module _ (same : List ℕ → List ℕ → Bool) (key : List ℕ) where
   abbrev pub Passed : List ℕ → List ℕ → Type 0
   Passed bs left = (rs : List Rec) → bs ≡ records rs
-      → (before more : List Rec) × (rs ≡ before ++ more) × (left ≡ records more) × All (λ (x : Rec). same key x.key ≡ false) before
+      → (before more : List Rec) × (rs ≡ before ++ more) × (left ≡ records more) × AllByRecursion (λ (x : Rec). same key x.key ≡ false) before
 
-  all_push : (xs : List Rec) (x : Rec) → All (λ (y : Rec). same key y.key ≡ false) xs → same key x.key ≡ false → All (λ (y : Rec). same key y.key ≡ false) (xs ++ x ∷ [])
+  all_push : (xs : List Rec) (x : Rec) → AllByRecursion (λ (y : Rec). same key y.key ≡ false) xs → same key x.key ≡ false → AllByRecursion (λ (y : Rec). same key y.key ≡ false) (xs ++ x ∷ [])
   all_push [] x a f = (f, tt)
   all_push (y ∷ ys) x a f = (a.0, all_push ys x a.1 f)
 
@@ -83,11 +83,11 @@ module _ (same : List ℕ → List ℕ → Bool) (key : List ℕ) where
   append-nil [] = refl
   append-nil (x ∷ xs) = ap (λ (l : List Rec). x ∷ l) (append-nil xs)
 
-  pub passed_all : (bs left : List ℕ) → ((x : Rec) (rest : List ℕ) → left ≡ record_bytes x ++ rest → ⊥) → Passed bs left → (rs : List Rec) → bs ≡ records rs → All (λ (x : Rec). same key x.key ≡ false) rs
+  pub passed_all : (bs left : List ℕ) → ((x : Rec) (rest : List ℕ) → left ≡ record_bytes x ++ rest → ⊥) → Passed bs left → (rs : List Rec) → bs ≡ records rs → AllByRecursion (λ (x : Rec). same key x.key ≡ false) rs
   passed_all bs left un c rs r =
       let k = c rs r in
       let z : rs ≡ k.0 = k.2 ∙ ap (λ (l : List Rec). k.0 ++ l) (no_more left k.1 un k.3) ∙ append-nil k.0 in
-      subst (All (λ (x : Rec). same key x.key ≡ false)) (sym z) k.4
+      subst (AllByRecursion (λ (x : Rec). same key x.key ≡ false)) (sym z) k.4
 
   pub passed_hit : (bs left after : List ℕ) (x : Rec) (at : ℕ) → at ≡ length bs - length left → left ≡ record_bytes x ++ after → same key x.key ≡ true → Passed bs left → (rs : List Rec) → bs ≡ records rs → FoundAt same key rs at x
   passed_hit bs left after x at place e t c rs r =

@@ -1,6 +1,6 @@
 -- What a check gathers of the pages that the entries name. R is the key rule, P i the page that entry i names.
 use Rattle.std.specs.Prelude.{◌≡◌, ℕ, ◌<◌, List, length}
-use Rattle.std.specs.List.{AllByRecursion as All}
+use Rattle.std.specs.List.{AllByRecursion}
 use Rattle.keys.specs.Rule.{Rule}
 use Rattle.tree.specs.Maps.{Rec}
 use Rattle.pages.specs.declared.check.Bucket.{Bucket}
@@ -13,7 +13,7 @@ use Rattle.pages.specs.Surveys.{StandsBehind}
 pub record Paged (R : Rule) (page : List ℕ) (w i : ℕ) (b : Bucket) : Type 0 where
   pub recs : List Rec
   pub is : BucketIs page b.depth recs
-  pub fine : All (Fine R.valid) recs
+  pub fine : AllByRecursion (Fine R.valid) recs
   pub bytes : b.bytes ≡ length (records recs)
   pub count : b.count ≡ length recs
   pub placed : Tells b.placed (StandsBehind R b.depth i w recs)
@@ -22,7 +22,7 @@ pub record Paged (R : Rule) (page : List ℕ) (w i : ℕ) (b : Bucket) : Type 0 
 pub record GatheredAt (R : Rule) (page : List ℕ) (d s c : ℕ) : Type 0 where
   pub recs : List Rec
   pub is : BucketIs page d recs
-  pub fine : All (Fine R.valid) recs
+  pub fine : AllByRecursion (Fine R.valid) recs
   pub bytes : s ≡ length (records recs)
   pub count : c ≡ length recs
 
@@ -40,4 +40,4 @@ AllStand R P D w n = (i : ℕ) → i < n → Stood R (P i) (D i) i w
 
 -- the pages of all entries below n are buckets by layout whose records may stand in a page
 abbrev pub AllBuckets : Rule → (ℕ → List ℕ) → ℕ → Type 0
-AllBuckets R P n = (i : ℕ) → i < n → (d : ℕ) × (rs : List Rec) × BucketIs (P i) d rs × All (Fine R.valid) rs
+AllBuckets R P n = (i : ℕ) → i < n → (d : ℕ) × (rs : List Rec) × BucketIs (P i) d rs × AllByRecursion (Fine R.valid) rs

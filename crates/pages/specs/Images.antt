@@ -1,6 +1,6 @@
 -- Images of a store, and when they are well formed under a key rule R in a device of n pages. An image is what each page shows; W1 to W6 are the conditions, in the order in which they are tested.
 use Rattle.std.specs.Prelude.{◌≡◌, ℕ, ◌+◌, ◌*◌, ◌/◌, ◌%◌, ◌^◌, ◌<◌, ◌≤◌, List, [], length, slice_index}
-use Rattle.std.specs.List.{AllByRecursion as All}
+use Rattle.std.specs.List.{AllByRecursion}
 use Rattle.device.specs.Meaning.{State, bytes, spoiled}
 use Rattle.keys.specs.Rule.{Rule}
 use Rattle.tree.specs.Prefix.{pre}
@@ -68,7 +68,7 @@ W3 e = (i : ℕ) → i < wide e → (5 ≤ entry e i) × (entry e i ≤ 4 + (roo
 
 -- W4: pages named are buckets by layout, and their records may stand in a page
 abbrev pub W4 : Rule → (ℕ → State) → Type 0
-W4 R e = (i : ℕ) → i < wide e → (d : ℕ) × (rs : List Rec) × BucketIs (named e i) d rs × All (Fine R.valid) rs
+W4 R e = (i : ℕ) → i < wide e → (d : ℕ) × (rs : List Rec) × BucketIs (named e i) d rs × AllByRecursion (Fine R.valid) rs
 
 -- a bucket of local depth d with the records rs stands rightly behind entry i: the entries that name its page are all those that begin with entry i's first d bits, so do its records' hashes,
 -- and no two of its keys are the same
@@ -76,7 +76,7 @@ pub record Placed (R : Rule) (e : ℕ → State) (i d : ℕ) (rs : List Rec) : T
   pub short : d ≤ (root e).depth
   pub only : (j : ℕ) → j < wide e → entry e j ≡ entry e i → pre (root e).depth j d ≡ pre (root e).depth i d
   pub every : (j : ℕ) → j < wide e → pre (root e).depth j d ≡ pre (root e).depth i d → entry e j ≡ entry e i
-  pub hashes : All (λ x. pre 32 (hashed R x) d ≡ pre (root e).depth i d) rs
+  pub hashes : AllByRecursion (λ x. pre 32 (hashed R x) d ≡ pre (root e).depth i d) rs
   pub apart : Apart R rs
 
 -- W5: each bucket stands rightly behind the entries that name it

@@ -1,6 +1,6 @@
 -- The laws of images under a key rule R, as contracts cite them. An image e is that of a device of n pages.
 use Rattle.std.specs.Prelude.{◌≡◌, ℕ, ◌+◌, ◌/◌, ◌%◌, ◌^◌, ◌<◌, ◌≤◌, List, [], length, ◌≢◌}
-use Rattle.std.specs.List.{AllByRecursion as All}
+use Rattle.std.specs.List.{AllByRecursion}
 use Rattle.device.specs.Meaning.{State, bytes, Alike}
 use Rattle.keys.specs.Rule.{Rule}
 use Rattle.tree.specs.Prefix.{pre}
@@ -60,7 +60,7 @@ pub record Fits (R : Rule) (x : Root) (E d : ℕ → ℕ) (recs : ℕ → List R
   pub used : (i : ℕ) → i < 2 ^ x.depth → (5 ≤ E i) × (E i ≤ 4 + x.limit)
   pub only : (i j : ℕ) → i < 2 ^ x.depth → j < 2 ^ x.depth → E j ≡ E i → pre x.depth j (d i) ≡ pre x.depth i (d i)
   pub every : (i j : ℕ) → i < 2 ^ x.depth → j < 2 ^ x.depth → pre x.depth j (d i) ≡ pre x.depth i (d i) → E j ≡ E i
-  pub fine : (i : ℕ) → i < 2 ^ x.depth → All (Fine R.valid) (recs i)
+  pub fine : (i : ℕ) → i < 2 ^ x.depth → AllByRecursion (Fine R.valid) (recs i)
   pub apart : (i : ℕ) → i < 2 ^ x.depth → Apart R (recs i)
   pub map : Sound R m
   pub holds : Holds (hashed R) size m x.depth d recs

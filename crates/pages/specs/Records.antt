@@ -1,6 +1,6 @@
 -- The bytes of records and of buckets.
 use Rattle.std.specs.Prelude.{◌≡◌, ℕ, ◌+◌, ◌≤◌, Bool, true, false, ◌&&◌, List, ◌∷◌, ◌++◌, length, Some, None, Option, nat_le}
-use Rattle.std.specs.List.{flat_map, AllByRecursion as All}
+use Rattle.std.specs.List.{flat_map, AllByRecursion}
 use Rattle.tree.specs.declared.classes.ClassRow.{ClassRow}
 use Rattle.tree.specs.Classes.{row_at}
 use Rattle.tree.specs.Maps.{Rec}
@@ -44,11 +44,11 @@ Fine valid r = fine valid r ≡ true
 
 -- a page is a bucket by layout, of local depth d, and these are the bytes of its records, which may stand in a page
 abbrev pub BucketRead : (List ℕ → Bool) → List ℕ → ℕ → List ℕ → Type 0
-BucketRead valid page d bs = (rs : List Rec) × BucketIs page d rs × (bs ≡ records rs) × All (Fine valid) rs
+BucketRead valid page d bs = (rs : List Rec) × BucketIs page d rs × (bs ≡ records rs) × AllByRecursion (Fine valid) rs
 
 -- a page is no bucket by layout whose records may stand in a page
 abbrev pub NoBucket : (List ℕ → Bool) → List ℕ → Type 0
-NoBucket valid page = (d : ℕ) (rs : List Rec) → BucketIs page d rs → All (Fine valid) rs → ⊥
+NoBucket valid page = (d : ℕ) (rs : List Rec) → BucketIs page d rs → AllByRecursion (Fine valid) rs → ⊥
 
 -- the first of the records rs whose key is the same as a given one is x, and it begins at that byte
 pub record FoundAt (same : List ℕ → List ℕ → Bool) (key : List ℕ) (rs : List Rec) (at : ℕ) (x : Rec) : Type 0 where
@@ -57,4 +57,4 @@ pub record FoundAt (same : List ℕ → List ℕ → Bool) (key : List ℕ) (rs 
   pub split : rs ≡ before ++ (x ∷ after)
   pub place : length (records before) ≡ at
   pub hit : same key x.key ≡ true
-  pub first : All (λ y. same key y.key ≡ false) before
+  pub first : AllByRecursion (λ y. same key y.key ≡ false) before

@@ -1,7 +1,7 @@
 -- What a check of an image gathers of each entry, and what it then tests. E i is the page that entry i names, D i that page's local depth, S i the bytes and C i the number of its records; the
 -- directory has w bits.
 use Rattle.std.specs.Prelude.{◌≡◌, ℕ, zero, suc, ◌+◌, ◌-◌, ◌%◌, ◌^◌, ◌<◌, ◌≤◌, cond, ◌⊎◌, List, ◌==◌, slice_index}
-use Rattle.std.specs.List.{AllByRecursion as All}
+use Rattle.std.specs.List.{AllByRecursion}
 use Rattle.keys.specs.Rule.{Rule}
 use Rattle.tree.specs.Prefix.{pre, sib}
 use Rattle.tree.specs.Loads.{Loads, Splits, hashed}
@@ -44,7 +44,7 @@ counted D C w (suc n) = counted D C w n + cond (n % 2 ^ (w - D n) == 0) (C n) 0
 
 -- the hashes of records begin with the d bits p, and no two keys are the same
 abbrev pub RecordsPlaced : Rule → ℕ → ℕ → List Rec → Type 0
-RecordsPlaced R d p rs = All (λ x. pre 32 (hashed R x) d ≡ p) rs × Apart R rs
+RecordsPlaced R d p rs = AllByRecursion (λ x. pre 32 (hashed R x) d ≡ p) rs × Apart R rs
 
 -- r is the number of pages, where these are the buckets of a tree
 abbrev pub NumberRight : (ℕ → ℕ) → ℕ → ℕ → Type 0

@@ -1,6 +1,6 @@
 //! Records, one after the other in the bytes of a bucket.
 ghost use Rattle.std.specs.Prelude.{◌≡◌, ℕ, ◌+◌, ◌<◌, ◌≤◌, true, false, List, ◌++◌, length, MatchBool, MatchOption, ◌≢◌};
-ghost use Rattle.std.specs.List.{AllByRecursion as All};
+ghost use Rattle.std.specs.List.{AllByRecursion};
 ghost use Rattle.tree.specs.Maps.{Rec};
 ghost use Rattle.pages.specs.Tells.{Tells};
 ghost use Rattle.pages.specs.Records.{record_bytes, records, viewed, fine, Fine, FoundAt};
@@ -64,7 +64,7 @@ fn is_fine<K: KeyRule>(stored: Record<'_>) -> bool
 
 /// Whether these bytes are records that may stand in a page.
 pub(crate) fn records_ok<K: KeyRule>(bytes: &[u8]) -> bool
-    ensures { MatchBool result ((rs : List Rec) × (bytes.now ≡ records rs) × All (Fine K.KeyRule.rule.valid) rs) ((rs : List Rec) → bytes.now ≡ records rs → All (Fine K.KeyRule.rule.valid) rs → ⊥) }
+    ensures { MatchBool result ((rs : List Rec) × (bytes.now ≡ records rs) × AllByRecursion (Fine K.KeyRule.rule.valid) rs) ((rs : List Rec) → bytes.now ≡ records rs → AllByRecursion (Fine K.KeyRule.rule.valid) rs → ⊥) }
 {
     let mut left = bytes;
     while !left.is_empty() {
@@ -94,7 +94,7 @@ pub(crate) fn count_records(bytes: &[u8]) -> usize
 
 /// The record of a key, and where it begins, or none.
 pub fn find<'a, K: KeyRule>(bytes: &'a [u8], key: &[u8]) -> Option<(usize, Record<'a>)>
-    ensures { (rs : List Rec) → bytes.now ≡ records rs → MatchOption result (All (λ x. K.KeyRule.rule.same key.now x.key ≡ false) rs) (λ p. FoundAt K.KeyRule.rule.same key.now rs p.0 (viewed p.1)) }
+    ensures { (rs : List Rec) → bytes.now ≡ records rs → MatchOption result (AllByRecursion (λ x. K.KeyRule.rule.same key.now x.key ≡ false) rs) (λ p. FoundAt K.KeyRule.rule.same key.now rs p.0 (viewed p.1)) }
 {
     let mut left = bytes;
     while let Some((record, after)) = next_record(left) {

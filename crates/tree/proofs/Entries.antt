@@ -1,6 +1,6 @@
 -- What entries of a directory fall into, and what a change does to them.
 use Rattle.std.proofs.Common.{◌≡◌, ℕ, suc, ◌+◌, ◌-◌, ◌*◌, ◌^◌, ◌<◌, ◌≤◌, true, not, eqb, List, [], ◌∷◌, filter, sym, ap, ◌∙◌, subst, ⊎_elim, arith, lit≤}
-use Rattle.std.specs.List.{AllByRecursion as All}
+use Rattle.std.specs.List.{AllByRecursion}
 use Rattle.std.proofs.lemmas.Bool.{cases_lt, cases_eq, eqb-false, not-true}
 use Rattle.std.proofs.ByRecursion.{kept_by_passes}
 use Rattle.std.proofs.lemmas.Nat.{shl_below}
@@ -116,7 +116,7 @@ load_filtered {X} hash weight xs l p k q low high e =
       load_none_in hash weight (filter (λ x. not (eqb (pre 32 (hash x) l) p)) xs) k q (others (filter (λ x. not (eqb (pre 32 (hash x) l) p)) xs) (kept_by_passes (λ x. not (eqb (pre 32 (hash x) l) p)) xs)),
     )
   where
-    others : (ys : List X) → All (λ x. not (eqb (pre 32 (hash x) l) p) ≡ true) ys → All (λ x. pre 32 (hash x) k ≡ q → ⊥) ys
+    others : (ys : List X) → AllByRecursion (λ x. not (eqb (pre 32 (hash x) l) p) ≡ true) ys → AllByRecursion (λ x. pre 32 (hash x) k ≡ q → ⊥) ys
     others [] a = tt
     others (y ∷ ys) a =
         ((λ z. eqb-false (pre 32 (hash y) l) p (not-true (eqb (pre 32 (hash y) l) p) a.0) (sym (pre_pre 32 (hash y) k l low high) ∙ ap (λ v. pre k v l) z ∙ e)), others ys a.1)

@@ -1,7 +1,7 @@
 -- Maps: their loads, and what one change does to them.
 use Rattle.std.proofs.Common.{◌≡◌, ℕ, ◌+◌, ◌≤◌, Bool, true, false, cond, not, eqb, List, [], ◌∷◌, ◌++◌, sum_by, filter, sym, refl, ap, ◌∙◌, subst, inl, inr, arith}
 use mathlib.Core.Path.{fun_ext}
-use Rattle.std.specs.List.{AllByRecursion as All}
+use Rattle.std.specs.List.{AllByRecursion}
 use Rattle.std.proofs.lemmas.List.Sums.{sum_by-cons, sum_by-append}
 use Rattle.std.proofs.lemmas.List.Filters.{sum_by-filter_both}
 use Rattle.std.proofs.ByRecursion.{all_kept_by, kept_by_passes}
@@ -24,13 +24,13 @@ module _ {X : Type 0} (hash weight : X → ℕ) where
   load_append xs ys n p = sum_by-append _ xs ys
 
   -- records that all begin with p: the load is all their bytes
-  pub load_all_in : (xs : List X) (n p : ℕ) → All (λ x. pre 32 (hash x) n ≡ p) xs → load hash weight xs n p ≡ sum_by weight xs
+  pub load_all_in : (xs : List X) (n p : ℕ) → AllByRecursion (λ x. pre 32 (hash x) n ≡ p) xs → load hash weight xs n p ≡ sum_by weight xs
   load_all_in [] n p a = load_nil hash weight n p
   load_all_in (x ∷ xs) n p a =
       omega (arith, load_cons hash weight x xs n p, sum_by-cons weight x xs, load_all_in xs n p a.1, cond-true (eqb (pre 32 (hash x) n) p) (weight x) 0 (eq-eqb _ _ a.0))
 
   -- records of which none does
-  pub load_none_in : (xs : List X) (n p : ℕ) → All (λ x. pre 32 (hash x) n ≡ p → ⊥) xs → load hash weight xs n p ≡ 0
+  pub load_none_in : (xs : List X) (n p : ℕ) → AllByRecursion (λ x. pre 32 (hash x) n ≡ p → ⊥) xs → load hash weight xs n p ≡ 0
   load_none_in [] n p a = load_nil hash weight n p
   load_none_in (x ∷ xs) n p a =
       omega (arith, load_cons hash weight x xs n p, load_none_in xs n p a.1, cond-false (eqb (pre 32 (hash x) n) p) (weight x) 0 (ne_eqb _ _ a.0))
@@ -44,16 +44,16 @@ module _ {X : Type 0} (hash weight : X → ℕ) where
   unfolding load
   load_kept t xs n p = sum_by-filter_both t (λ x. not (t x)) (λ x. refl) _ xs
 
-all_both : {X : Type 0} (P Q S : X → Type 0) → ((x : X) → P x → Q x → S x) → (xs : List X) → All P xs → All Q xs → All S xs
+all_both : {X : Type 0} (P Q S : X → Type 0) → ((x : X) → P x → Q x → S x) → (xs : List X) → AllByRecursion P xs → AllByRecursion Q xs → AllByRecursion S xs
 all_both P Q S f [] a b = tt
 all_both P Q S f (x ∷ xs) a b = (f x a.0 b.0, all_both P Q S f xs a.1 b.1)
 
-pub all_of : {X : Type 0} (P : X → Type 0) → (x : X) (xs : List X) → All P xs → In x xs → P x
+pub all_of : {X : Type 0} (P : X → Type 0) → (x : X) (xs : List X) → AllByRecursion P xs → In x xs → P x
 all_of P x [] a i = absurd i
 all_of P x (y ∷ xs) a (inl e) = subst P e a.0
 all_of P x (y ∷ xs) a (inr i) = all_of P x xs a.1 i
 
-pub all_in : {X : Type 0} (P : X → Type 0) → (xs : List X) → ((x : X) → In x xs → P x) → All P xs
+pub all_in : {X : Type 0} (P : X → Type 0) → (xs : List X) → ((x : X) → In x xs → P x) → AllByRecursion P xs
 all_in P [] f = tt
 all_in P (x ∷ xs) f = (f x (inl refl), all_in P xs (λ z i. f z (inr i)))
 
@@ -124,12 +124,12 @@ module _ (R : Rule) where
 
     -- ---- one change: the loads of the key's prefixes all change by one amount, and no other
 
-    taken : (k : List ℕ) (m : List Rec) → R.valid k ≡ true → Valid R m → All (λ r. R.hash r.key ≡ R.hash k) (filter (λ r. R.same k r.key) m)
+    taken : (k : List ℕ) (m : List Rec) → R.valid k ≡ true → Valid R m → AllByRecursion (λ r. R.hash r.key ≡ R.hash k) (filter (λ r. R.same k r.key) m)
     taken k m v a =
         all_both _ _ (λ r. R.hash r.key ≡ R.hash k) (λ r p q. sym (law.hashes k r.key v p q)) _
         (all_kept_by (λ r. R.same k r.key) (λ r. R.valid r.key ≡ true) m a) (kept_by_passes (λ r. R.same k r.key) m)
 
-    all_then : (P Q : Rec → Type 0) → ((x : Rec) → P x → Q x) → (xs : List Rec) → All P xs → All Q xs
+    all_then : (P Q : Rec → Type 0) → ((x : Rec) → P x → Q x) → (xs : List Rec) → AllByRecursion P xs → AllByRecursion Q xs
     all_then P Q f [] a = tt
     all_then P Q f (x ∷ xs) a = (f x a.0, all_then P Q f xs a.1)
 

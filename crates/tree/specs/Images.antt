@@ -1,6 +1,6 @@
 -- A directory of 2 ^ w entries, and the pages behind it. Entry i, read as w bits, names a page of local depth d i that has the records recs i; several entries may name one page.
 use Rattle.std.specs.Prelude.{◌≡◌, ℕ, zero, suc, ◌+◌, ◌-◌, ◌%◌, ◌^◌, ◌<◌, ◌≤◌, cond, ◌⊎◌, List, [], ◌++◌, sum_by, ◌==◌, ◌≢◌}
-use Rattle.std.specs.List.{AllByRecursion as All}
+use Rattle.std.specs.List.{AllByRecursion}
 use Rattle.tree.specs.Prefix.{pre, sib}
 use Rattle.tree.specs.Loads.{Loads, load}
 use Rattle.tree.specs.Trees.{room, Falls}
@@ -21,7 +21,7 @@ pub record Tested (L : Loads) (w : ℕ) (d : ℕ → ℕ) : Type 0 where
 pub record Pages {X : Type 0} (hash : X → ℕ) (w : ℕ) (d : ℕ → ℕ) (recs : ℕ → List X) : Type 0 where
   pub parts : Parts w d
   pub shared : (i j : ℕ) → i < 2 ^ w → j < 2 ^ w → pre w j (d i) ≡ pre w i (d i) → recs j ≡ recs i
-  pub begin : (i : ℕ) → i < 2 ^ w → All (λ x. pre 32 (hash x) (d i) ≡ pre w i (d i)) (recs i)
+  pub begin : (i : ℕ) → i < 2 ^ w → AllByRecursion (λ x. pre 32 (hash x) (d i) ≡ pre w i (d i)) (recs i)
 
 -- f 0, f 1, up to f (n - 1), joined
 unfoldable pub gathered : {X : Type 0} → (ℕ → List X) → ℕ → List X

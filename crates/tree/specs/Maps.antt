@@ -1,6 +1,6 @@
 -- Records and maps. A map is a set of records, no two keys the same: a list that is told by what stands in it (`Same`) and never by its order.
 use Rattle.std.specs.Prelude.{◌≡◌, ℕ, ◌+◌, true, false, not, List, [], ◌∷◌, length, sum_by, filter}
-use Rattle.std.specs.List.{AllByRecursion as All}
+use Rattle.std.specs.List.{AllByRecursion}
 use Rattle.keys.specs.Rule.{Rule}
 
 pub record Rec : Type 0 where
@@ -17,12 +17,12 @@ size r = 8 + length r.key + length r.value
 
 -- each key is valid
 abbrev pub Valid : Rule → List Rec → Type 0
-Valid R m = All (λ r. R.valid r.key ≡ true) m
+Valid R m = AllByRecursion (λ r. R.valid r.key ≡ true) m
 
 -- no two keys are the same
 abbrev pub Apart : Rule → List Rec → Type 0
 Apart R [] = Unit {0}
-Apart R (r ∷ m) = All (λ s. R.same r.key s.key ≡ false) m × Apart R m
+Apart R (r ∷ m) = AllByRecursion (λ s. R.same r.key s.key ≡ false) m × Apart R m
 
 -- m is a map under the rule R
 pub record Sound (R : Rule) (m : List Rec) : Type 0 where
