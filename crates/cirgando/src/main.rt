@@ -9,12 +9,20 @@ mod words;
 
 use script::Script;
 use std::io::BufReader;
+use std::process::ExitCode;
 
-fn main(rt: HostRuntime) -> anyhow::Result<()> {
-    let mut script = Script::new(BufReader::new(rt.alloc(), rt.stdin())?, rt.alloc());
-    let played = session::play(&rt, &mut script);
-    if let Err(e) = &played {
-        eprintln!(rt; "cirgando: {e}")?;
+fn main(rt: HostRuntime) -> anyhow::Result<ExitCode> {
+    match run(&rt) {
+        Ok(()) => Ok(ExitCode::SUCCESS),
+        Err(e) => {
+            eprintln!(rt; "cirgando: {e}")?;
+            Ok(ExitCode::FAILURE)
+        }
     }
-    played
+}
+
+// Plays the transcript on standard input.
+fn run(rt: &HostRuntime) -> anyhow::Result<()> {
+    let mut script = Script::new(BufReader::new(rt.alloc(), rt.stdin())?, rt.alloc());
+    session::play(rt, &mut script)
 }

@@ -1,0 +1,10 @@
+use Rattle.std.proofs.Common.{◌≡◌, ℕ, ◌<◌, ◌≤◌, List}
+use Rattle.tree.specs.Maps.{Rec}
+use Rattle.tree.specs.Trees.{room}
+use Rattle.pages.specs.Records.{records}
+use Rattle.bucket.specs.Sifts.{own_load}
+use Rattle.bucket.proofs.target.target_bits.Given as goal
+
+-- Under no number so far have they room.
+abbrev pub invariant-loop-n : goal.invariant-loop-n
+invariant-loop-n g l = (rs : List Rec) → l.bytes ≡ records rs → (k : ℕ) → l.bits ≤ k → k < l.n → room < own_load g.K.KeyRule.rule l.key l.hash l.more rs k
