@@ -33,7 +33,7 @@ module _ (f : ℕ → List ℕ) (s k : List ℕ) (n : ℕ) where
   pub swept_none : Swept f s k n 0 s k
   swept_none = record { length_s = refl; done = λ j h. absurd (omega arith); todo = λ j a b. refl; rest = refl; marks = cleared_none k }
 
-  module _ (fits : n * 256 ≤ length s) (marks-fit : n ≤ length k) (i : ℕ) (s' k' : List ℕ) (h : Swept f s k n i s' k') (lt : i < n) where
+  module _ (fits : n * 256 ≤ length s) (marks_fit : n ≤ length k) (i : ℕ) (s' k' : List ℕ) (h : Swept f s k n i s' k') (lt : i < n) where
     -- the page keeps what it has
     pub swept_keep : raw s i ≡ f i → Swept f s k n (i + 1) s' (set k' i 0)
     swept_keep e = record {
@@ -64,10 +64,10 @@ module _ (f : ℕ → List ℕ) (s k : List ℕ) (n : ℕ) where
 
     -- the page gets x where it is marked
     pub swept_step : (x s₂ k₂ : List ℕ) → s₂ ≡ cond (marked k' i) (put_raw s' i x) s' → k₂ ≡ set k' i 0 → length x ≡ 256 → (marked k i ≡ true → x ≡ f i) → (marked k i ≡ false → raw s i ≡ f i) → Swept f s k n (i + 1) s₂ k₂
-    swept_step x s₂ k₂ e q l yes-so no-so =
+    swept_step x s₂ k₂ e q l yes_so no_so =
         ⊎_elim
-        (λ (t : marked k i ≡ true). moved _ _ _ _ (sym (e ∙ cond-true (marked k' i) _ _ (marked_still ∙ t))) (sym q) (swept_put x l (yes-so t)))
-        (λ (t : marked k i ≡ false). moved _ _ _ _ (sym (e ∙ cond-false (marked k' i) _ _ (marked_still ∙ t))) (sym q) (swept_keep (no-so t)))
+        (λ (t : marked k i ≡ true). moved _ _ _ _ (sym (e ∙ cond-true (marked k' i) _ _ (marked_still ∙ t))) (sym q) (swept_put x l (yes_so t)))
+        (λ (t : marked k i ≡ false). moved _ _ _ _ (sym (e ∙ cond-false (marked k' i) _ _ (marked_still ∙ t))) (sym q) (swept_keep (no_so t)))
         (cases_Bool (marked k i))
       where
         moved : (a b p q : List ℕ) → a ≡ b → p ≡ q → Swept f s k n (i + 1) a p → Swept f s k n (i + 1) b q

@@ -1,7 +1,7 @@
 // Raw pages: the bytes of a page, then its CRC-32, the highest byte first.
 ghost use Rattle.std.specs.Prelude.{◌≡◌, ◌+◌, ◌*◌, ◌<◌, ◌≤◌, length, take, if◌then◌else◌};
 ghost use Rattle.disk.specs.Raw.{check_of, raw, put_raw, holds, sealed};
-ghost use Rattle.disk.specs.Image.{current, marked};
+ghost use Rattle.disk.specs.Image.{current};
 
 use crc::crc32;
 use device::PAGE_SIZE;

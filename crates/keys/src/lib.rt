@@ -2,7 +2,7 @@
 #![tactic(auto)]
 
 ghost use Rattle.std.specs.Prelude.{◌≡◌, ◌≢◌, map, MatchBool};
-ghost use Rattle.crc.specs.Crc32.{byte_in, crc_of};
+ghost use Rattle.crc.specs.Crc32.{byte_in};
 ghost use Rattle.keys.specs.Integers.{integers};
 ghost use Rattle.keys.specs.Rule.{Lawful, Rule};
 ghost use Rattle.keys.specs.Text.{all_graphic, graphic, lowered, texts};
