@@ -104,14 +104,16 @@ mod tests {
         let mut directory = one_bucket().ok_or("too deep")?;
         assert_eq!(rt; directory.split(3, 0x8000_0000, 0, 2), Ok(()));
         assert_eq!(rt; directory.depth, 2);
-        assert_eq!(rt; directory.entries[0], 6);
-        assert_eq!(rt; directory.entries[1], 6);
-        assert_eq!(rt; directory.entries[2], 5);
-        assert_eq!(rt; directory.entries[3], 7);
+        let entries = directory.entries;
+        assert_eq!(rt; entries[0], 6);
+        assert_eq!(rt; entries[1], 6);
+        assert_eq!(rt; entries[2], 5);
+        assert_eq!(rt; entries[3], 7);
         directory.merge(0x8000_0000, 1, 5);
         assert_eq!(rt; directory.depth, 1);
-        assert_eq!(rt; directory.entries[1], 5);
-        assert_eq!(rt; directory.entries[2], 0);
+        let entries = directory.entries;
+        assert_eq!(rt; entries[1], 5);
+        assert_eq!(rt; entries[2], 0);
         Ok(())
     }
 

@@ -1,4 +1,4 @@
-use Rattle.std.proofs.Common.{sym, ap, ◌∙◌, subst, arith}
+use Rattle.std.proofs.Common.{sym, ap, ◌∙◌, subst}
 use Rattle.directory.specs.Names.{at, assigned}
 use Rattle.directory.specs.Changes.{Merged, NarrowedTo}
 use Rattle.directory.proofs.Narrowing.{merged_from}

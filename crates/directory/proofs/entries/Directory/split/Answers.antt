@@ -1,7 +1,7 @@
-use Rattle.std.proofs.Common.{◌≡◌, ℕ, ◌≤◌, max, Result, MatchResult, sym, ◌∙◌, subst, arith}
+use Rattle.std.proofs.Common.{◌≡◌, ◌≤◌, max, sym, ◌∙◌, subst, arith}
 use Rattle.std.proofs.lemmas.Result.{MatchResult-weaker}
 use Rattle.directory.specs.Names.{at}
-use Rattle.directory.specs.Changes.{Split, SplitTo, TooFew, WidenedTo}
+use Rattle.directory.specs.Changes.{Split, SplitTo, WidenedTo}
 use Rattle.directory.proofs.Paths.{wide_from, split_used}
 use Rattle.directory.proofs.entries.Directory.split.Goals as goal
 

@@ -1,4 +1,4 @@
-use Rattle.std.proofs.Common.{◌≡◌, ℕ, ◌^◌, ◌<◌, ◌≤◌, length}
+use Rattle.std.proofs.Common.{◌≡◌, ℕ, ◌^◌, ◌<◌, ◌≤◌}
 use Rattle.directory.specs.Names.{at, widened, Beyond}
 use Rattle.directory.proofs.entries.Directory.widen.Given as goal
 
