@@ -21,12 +21,7 @@ pub(crate) fn number(word: &str) -> Option<u64>
 fn digit(c: u8) -> Option<u8>
     ensures { SomeIff result (digit_value c < 16) (digit_value c) }
 {
-    match c {
-        b'0'..=b'9' => Some(c - b'0'),
-        b'a'..=b'f' => Some(c - b'a' + 10),
-        b'A'..=b'F' => Some(c - b'A' + 10),
-        _ => None,
-    }
+    char::from(c).to_digit(16).map(|value| value as u8)
 }
 
 // The byte of two hex digits.
