@@ -1,5 +1,5 @@
 -- Pages by layout.
-use Rattle.std.proofs.Common.{◌≡◌, ℕ, suc, ◌+◌, ◌-◌, ◌*◌, ◌/◌, ◌%◌, ◌<◌, ◌≤◌, Bool, true, false, eqb, leb, List, [], ◌∷◌, ◌++◌, length, get_or, take, drop, set, replicate, MatchBool, sym, refl, ap, ◌∙◌, subst, arith, length-drop, leb-false, leb-true}
+use Rattle.std.proofs.Common.{◌≡◌, ℕ, suc, ◌+◌, ◌-◌, ◌*◌, ◌/◌, ◌%◌, ◌<◌, ◌≤◌, Bool, true, false, eqb, leb, List, [], ◌∷◌, ◌++◌, length, get_or, take, drop, set, replicate, Some, None, Option, Bor, MatchBool, MatchOption, sym, refl, ap, ◌∙◌, subst, arith, length-drop, leb-false, leb-true}
 use Rattle.std.proofs.lemmas.List.{take_all, append_assoc, length-set, get_or-set_same, get_or-set_other, set-append_left, get_or_append_left}
 use Rattle.tree.specs.Maps.{Rec}
 use Rattle.layout.specs.Envelope.{be2, envelope, Enveloped}
@@ -26,6 +26,11 @@ directory_told p body v =
     told : (b : Bool) → eqb (length body) 128 ≡ b → MatchBool b (Directory p) (Directory p → ⊥)
     told true e = (body, eqb-true (length body) 128 e, v.is)
     told false e = λ d. eqb-false (length body) 128 e (ap length (envelope_inj body d.0 (sym v.is ∙ d.2)) ∙ d.1)
+
+pub directory_if : (o : Option (Bor (List ℕ))) (r : Bool) (p : List ℕ) (Q : Bor (List ℕ) → Type 0) → MatchOption o ((body : List ℕ) → Enveloped p body → ⊥) (λ b. Enveloped p b.now)
+    → MatchOption o (r ≡ false) Q → ((b : Bor (List ℕ)) → Q b → r ≡ eqb (length b.now) 128) → Tells r (Directory p)
+directory_if None r p Q un e t = subst (λ v. Tells v (Directory p)) (sym e) (λ d. un d.0 (record { fits = omega (arith, d.1); is = d.2 }))
+directory_if (Some b) r p Q v e t = subst (λ v. Tells v (Directory p)) (sym (t b e)) (directory_told p b.now v)
 
 -- a byte of the body set
 pub set_body : (b : List ℕ) (j v : ℕ) → j < length b → set (envelope b) (3 + j) v ≡ envelope (set b j v)

@@ -1,3 +1,4 @@
+pub mod Entries
 pub mod Codec
 pub mod Envelopes
 pub mod Walks

@@ -15,9 +15,7 @@ const PART: usize = 241;
 pub fn read_bucket<K: KeyRule>(page: &[u8]) -> Option<(u8, &[u8])>
     ensures { MatchOption result (NoBucket K.KeyRule.rule.valid page.now) (λ p. BucketRead K.KeyRule.rule.valid page.now p.0 p.1.now) }
 {
-    let Some(body) = layout::body_of(page) else {
-        return None;
-    };
+    let body = layout::body_of(page)?;
     let [depth, bytes @ ..] = body else {
         return None;
     };
@@ -86,11 +84,7 @@ pub fn removed(depth: u8, bytes: &[u8], start: usize, len: usize) -> Option<[u8;
     ensures bytes { MatchOption result ((length bytes.now < start + len) ⊎ (248 + len < length bytes.now)) (λ p. Enveloped p (depth ∷ (take start bytes.now ++ drop (start + len) bytes.now))) }
     ensures records { (before : List Rec) (x : Rec) (after : List Rec) → bytes.now ≡ records (before ++ x ∷ after) → length bytes.now ≤ 248 → start ≡ length (records before) → len ≡ size x → MatchOption result ⊥ (λ p. BucketIs p depth (before ++ after)) }
 {
-    if start > bytes.len() {
-        return None;
-    }
-    if len > bytes.len() - start {
-        return None;
-    }
-    bucket_page(depth, &bytes[0..start], &bytes[start + len..])
+    let front = bytes.get(..start)?;
+    let back = bytes.get(start..)?.get(len..)?;
+    bucket_page(depth, front, back)
 }

@@ -62,13 +62,7 @@ fn unused_zero(entries: &[u16; 256], depth: u32) -> bool
     requires { depth ≤ 8 }
     ensures { Tells result (Unused (at entries.now) depth) }
 {
-    let wide = 1usize << depth;
-    for i in wide..256 {
-        if entries[i] != 0 {
-            return false;
-        }
-    }
-    true
+    entries[1usize << depth..].iter().all(|entry| *entry == 0)
 }
 
 /// Whether the used entries name pages that may be buckets.
@@ -76,13 +70,8 @@ fn in_range(entries: &[u16; 256], depth: u32, limit: u16) -> bool
     requires { depth ≤ 8 }
     ensures { Tells result (InRange (at entries.now) depth limit) }
 {
-    let wide = 1usize << depth;
-    for i in 0..wide {
-        if entries[i] < 5 || u32::from(entries[i]) > 4 + u32::from(limit) {
-            return false;
-        }
-    }
-    true
+    entries[..1usize << depth].iter().all(|entry| *entry >= 5
+        && u32::from(*entry) <= 4 + u32::from(limit))
 }
 
 /// Reads the entries of the directory; false where some directory page is not by layout.

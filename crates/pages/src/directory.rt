@@ -7,10 +7,7 @@ ghost use Rattle.pages.specs.Tells.{Tells};
 pub(crate) fn is_directory(page: &[u8]) -> bool
     ensures { Tells result (Directory page.now) }
 {
-    match layout::body_of(page) {
-        Some(body) => body.len() == 128,
-        None => false,
-    }
+    layout::body_of(page).is_some_and(|body| body.len() == 128)
 }
 
 /// Entry `k` of a directory page.

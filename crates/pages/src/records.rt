@@ -8,7 +8,7 @@ ghost use Rattle.pages.specs.Records.{record_bytes, records, viewed, fine, Fine,
 use keys::KeyRule;
 
 /// A record in a page.
-#[derive(Clone, Copy)]
+#[derive(Clone, Copy, Debug, PartialEq, Eq)]
 pub struct Record<'a> {
     pub class: u8,
     pub day: u32,
