@@ -1,3 +1,4 @@
+pub mod Answering
 pub mod Entries
 pub mod Codec
 pub mod Envelopes

@@ -4,6 +4,7 @@
 mod bucket;
 mod check;
 mod directory;
+mod fault;
 mod format;
 mod laws;
 mod page;
@@ -15,6 +16,7 @@ mod survey;
 pub use bucket::{add_record, appended, bucket_page, read_bucket, removed};
 pub use check::check_image;
 pub use directory::{entry_of, set_entry};
+pub use fault::CheckFault;
 pub use format::empty_store_page;
 pub use laws::{first_bucket, images_stand, pages_stand};
 pub use reading::read_page;
@@ -35,7 +37,7 @@ mod tests {
             key: b"a",
             value: b"hi",
         };
-        let page = appended(0, &[], stored).ok_or("no room")?;
+        let page = appended(0, &[], stored).map_err(|_| "no room")?;
         assert_eq!(rt; page[2], 12);
         assert_eq!(rt; page[5], 11);
         let (_, bytes) = read_bucket::<TextKeys>(&page).ok_or("no bucket")?;

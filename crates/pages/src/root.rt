@@ -4,6 +4,8 @@ ghost use Rattle.layout.specs.Envelope.{envelope};
 ghost use Rattle.pages.specs.Bytes.{root_body};
 ghost use Rattle.pages.specs.Images.{number_of};
 
+use device::Page;
+
 /// The numbers of page 0: the kind of keys, the directory's depth, how many buckets there may be and are, and how many records.
 #[derive(Clone, Copy, Debug, PartialEq, Eq)]
 pub struct Root {
@@ -68,7 +70,7 @@ pub fn read_root(page: &[u8]) -> Option<Root>
 }
 
 /// Page 0 with these numbers.
-pub fn root_page(root: Root) -> [u8; 252]
+pub fn root_page(root: Root) -> Page
     ensures { result ≡ envelope (root_body root) }
 {
     let [l1, l0] = root.limit.to_be_bytes();
