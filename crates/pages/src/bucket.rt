@@ -13,19 +13,28 @@ use layout::NoRoom;
 /// The most bytes of a key or of a value that a body has room for.
 const PART: usize = 241;
 
-/// The local depth of a bucket and the bytes of its records, where the page is a bucket by layout whose records may stand in a page.
-pub fn read_bucket<K: KeyRule>(page: &[u8]) -> Option<(u8, &[u8])>
-    ensures { MatchOption result (NoBucket K.KeyRule.rule.valid page.now) (λ p. BucketRead K.KeyRule.rule.valid page.now p.0 p.1.now) }
+/// A bucket in a page: its local depth, and the bytes of its records.
+#[derive(Clone, Copy, Debug, PartialEq, Eq)]
+pub struct BucketView<'a> {
+    pub depth: u8,
+    pub records: &'a [u8],
+}
+
+/// The bucket in a page that is one by layout, whose records may stand in a page.
+pub fn read_bucket<K: KeyRule>(page: &[u8]) -> Option<BucketView<'_>>
+    ensures { MatchOption result (NoBucket K.KeyRule.rule.valid page.now) (λ b. BucketRead K.KeyRule.rule.valid page.now b.depth b.records.now) }
 {
     let body = layout::body_of(page)?;
-    let [depth, bytes @ ..] = body else {
+    let [depth, records @ ..] = body else {
         return None;
     };
-    if records::records_ok::<K>(bytes) {
-        Some((*depth, bytes))
-    } else {
-        None
+    if !records::records_ok::<K>(records) {
+        return None;
     }
+    Some(BucketView {
+        depth: *depth,
+        records,
+    })
 }
 
 /// A bucket's page, from its local depth and the bytes of its records in two parts, which may have no room.

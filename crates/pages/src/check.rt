@@ -105,14 +105,14 @@ fn read_named<D: GroupDevice, K: KeyRule>(
     let Some(page) = read_page(device, number)? else {
         return Ok(None);
     };
-    let Some((bits, bytes)) = bucket::read_bucket::<K>(&page) else {
+    let Some(found) = bucket::read_bucket::<K>(&page) else {
         return Ok(None);
     };
-    let count = records::count_records(bytes);
-    let placed = bucket_placed::<K>(bytes, u32::from(bits), i, depth);
+    let count = records::count_records(found.records);
+    let placed = bucket_placed::<K>(found.records, u32::from(found.depth), i, depth);
     Ok(Some(Bucket {
-        depth: bits,
-        bytes: bytes.len() as u16,
+        depth: found.depth,
+        bytes: found.records.len() as u16,
         count: count as u16,
         placed,
     }))

@@ -5,5 +5,5 @@ use Rattle.pages.proofs.bucket.read_bucket.Goals as goal
 pub returns-in_default : goal.returns-in_default
 returns-in_default g c = λ d rs b f. let l = ap length (is_bucket_body _ _ d rs c.in_ok-body.ensures b) in omega (arith, ltb-true, l)
 
-pub returns-else-records_ok : goal.returns-else-records_ok
-returns-else-records_ok g c = λ d rs b f. c.if-records_ok.ensures rs (bucket_rest _ _ _ d rs c.in_ok-body.ensures refl b) f
+pub returns-then-not-records_ok : goal.returns-then-not-records_ok
+returns-then-not-records_ok g c = λ d rs b f. c.if-not-records_ok.ensures rs (bucket_rest _ _ _ d rs c.in_ok-body.ensures refl b) f

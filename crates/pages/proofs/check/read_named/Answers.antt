@@ -30,7 +30,7 @@ returns g c = λ h a.
           let e = ap shows (MatchOption-at_some _ _ c.in-Some.page c.in-Some.is (q.1 n f w)) in
           record {
             recs = r.0;
-            is = subst (λ (p : List ℕ). BucketIs p c.in-Some-read_bucket.bits r.0) (sym e) r.1;
+            is = subst (λ (p : List ℕ). BucketIs p c.in-Some-read_bucket.found.depth r.0) (sym e) r.1;
             fine = r.3;
             bytes = ap length r.2;
             count = c.count_records-count.ensures r.0 r.2;
