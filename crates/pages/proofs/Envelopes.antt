@@ -1,8 +1,9 @@
 -- Pages by layout.
-use Rattle.std.proofs.Common.{◌≡◌, ℕ, suc, ◌+◌, ◌-◌, ◌*◌, ◌/◌, ◌%◌, ◌<◌, ◌≤◌, Bool, true, false, eqb, leb, List, [], ◌∷◌, ◌++◌, length, get_or, take, drop, set, replicate, MatchBool, sym, refl, ap, ◌∙◌, subst, arith, length-drop, leb-false, leb-true}
+use Rattle.std.proofs.Common.{◌≡◌, ℕ, suc, ◌+◌, ◌-◌, ◌*◌, ◌/◌, ◌%◌, ◌<◌, ◌≤◌, Bool, true, false, eqb, List, [], ◌∷◌, ◌++◌, length, get_or, take, drop, set, replicate, Some, None, Option, Ok, Err, Result, Bor, MatchBool, MatchOption, sym, refl, ap, ◌∙◌, subst, arith, length-drop}
 use Rattle.std.proofs.lemmas.List.{take_all, append_assoc, length-set, get_or-set_same, get_or-set_other, set-append_left, get_or_append_left}
 use Rattle.tree.specs.Maps.{Rec}
-use Rattle.layout.specs.Envelope.{be2, envelope, Enveloped}
+use Rattle.layout.specs.Envelope.{be2, envelope, Enveloped, Extended}
+use Rattle.layout.specs.declared.NoRoom.{NoRoom}
 use Rattle.pages.specs.Bytes.{be4, root_body, Directory, EntrySet}
 use Rattle.pages.specs.declared.root.Root.{Root}
 use Rattle.pages.specs.Tells.{Tells}
@@ -26,6 +27,11 @@ directory_told p body v =
     told : (b : Bool) → eqb (length body) 128 ≡ b → MatchBool b (Directory p) (Directory p → ⊥)
     told true e = (body, eqb-true (length body) 128 e, v.is)
     told false e = λ d. eqb-false (length body) 128 e (ap length (envelope_inj body d.0 (sym v.is ∙ d.2)) ∙ d.1)
+
+pub directory_if : (o : Option (Bor (List ℕ))) (r : Bool) (p : List ℕ) (Q : Bor (List ℕ) → Type 0) → MatchOption o ((body : List ℕ) → Enveloped p body → ⊥) (λ b. Enveloped p b.now)
+    → MatchOption o (r ≡ false) Q → ((b : Bor (List ℕ)) → Q b → r ≡ eqb (length b.now) 128) → Tells r (Directory p)
+directory_if None r p Q un e t = subst (λ v. Tells v (Directory p)) (sym e) (λ d. un d.0 (record { fits = omega (arith, d.1); is = d.2 }))
+directory_if (Some b) r p Q v e t = subst (λ v. Tells v (Directory p)) (sym (t b e)) (directory_told p b.now v)
 
 -- a byte of the body set
 pub set_body : (b : List ℕ) (j v : ℕ) → j < length b → set (envelope b) (3 + j) v ≡ envelope (set b j v)
@@ -158,13 +164,13 @@ head_made x l t sl st el et =
     (λ i. get_or (el i) 0 0 ∷ get_or (el i) 1 0 ∷ x.class ∷ get_or (et i) 0 0 ∷ get_or (et i) 1 0 ∷ get_or (et i) 2 0 ∷ get_or (et i) 3 0 ∷ length x.key ∷ (x.key ++ x.value))
     ∙ (λ i. ql i ∷ ((8 + length x.key + length x.value) % 256) ∷ x.class ∷ qt i ∷ (x.last / 65536 % 256) ∷ (x.last / 256 % 256) ∷ (x.last % 256) ∷ length x.key ∷ (x.key ++ x.value))
 
-pub add_made : (page body head key value : List ℕ) (x : Rec) → head ++ (key ++ value) ≡ record_bytes x → Enveloped page (((body ++ head) ++ key) ++ value) → Enveloped page (body ++ record_bytes x)
+add_made : (page body head key value : List ℕ) (x : Rec) → head ++ (key ++ value) ≡ record_bytes x → Enveloped page (((body ++ head) ++ key) ++ value) → Enveloped page (body ++ record_bytes x)
 add_made page body head key value x e v =
     let a : ((body ++ head) ++ key) ++ value ≡ body ++ record_bytes x =
     append_assoc (body ++ head) key value ∙ append_assoc body head (key ++ value) ∙ ap (λ (q : List ℕ). body ++ q) e in
     record { fits = subst (λ (q : List ℕ). length q ≤ 249) a v.fits; is = v.is ∙ ap envelope a }
 
--- whether there is room
-pub room_told : (b : Bool) (more n l : ℕ) → b ≡ leb more (249 - n) → n ≡ l → l ≤ 249 → Tells b (l + more ≤ 249)
-room_told true more n l e q h = omega (arith, leb-true more (249 - n) (sym e))
-room_told false more n l e q h = λ z. omega (arith, leb-false more (249 - n) (sym e))
+pub last_added : (page body head key value : List ℕ) (x : Rec) (r : Result (Unit {0}) NoRoom) → head ++ (key ++ value) ≡ record_bytes x → length ((body ++ head) ++ key) + length value ≤ 249
+    → Extended page ((body ++ head) ++ key) value r → Extended page body (record_bytes x) r
+last_added page body head key value x (Ok _) e h v = add_made page body head key value x e v
+last_added page body head key value x (Err _) e h v = absurd (omega (arith, v.0))

@@ -1,3 +1,5 @@
+pub mod Answering
+pub mod Entries
 pub mod Codec
 pub mod Envelopes
 pub mod Walks

@@ -1,16 +1,15 @@
 -- Reads of a group device, one after another.
-use Rattle.std.proofs.Common.{◌≡◌, ℕ, ◌+◌, ◌<◌, ◌≤◌, Bool, true, false, ◌||◌, List, length, IfErr, Ok, Err, Result, sym, refl, ◌∙◌, subst, arith, MatchResult}
-use Rattle.std.proofs.lemmas.Bool.{both_ways}
+use Rattle.std.proofs.Common.{◌≡◌, ℕ, ◌+◌, ◌<◌, ◌≤◌, Bool, true, false, ◌||◌, List, length, Ok, Err, Result, sym, refl, ◌∙◌, subst, arith, MatchResult}
 use Rattle.device.specs.declared.DeviceFault.{DeviceFault}
 use Rattle.device.specs.declared.DeviceFault.TheVariants.{NoSuchPage, BufferSize, PowerLost, PageSpoiled, TooManyWaiting}
 use Rattle.device.specs.Meaning.{State, bytes, spoiled, Meaning, Grouped, SoundGroup, Alike}
 use Rattle.device.specs.Numbers.{number}
 use Rattle.device.specs.Promises.{Same}
 use Rattle.device.specs.GroupPromises.{NoEnd, SameGroup}
-use Rattle.device.specs.Calls.{Answer, Call, reads, Calls, none, more, GroupCalls}
+use Rattle.device.specs.Calls.{shown_page, Answer, Call, reads, Calls, none, more, GroupCalls}
 use Rattle.device.specs.Clauses.{GroupDoes}
 use Rattle.device.proofs.Meanings.{same_self, same_group_self}
-use Rattle.pages.specs.Reads.{made, Ready, Kept, Failed, Shows, Seen, Looks, PageRead, told}
+use Rattle.pages.specs.Reads.{made, Ready, Kept, Failed, Shows, Seen, Looks, PageRead}
 
 -- ---- meanings
 
@@ -99,12 +98,12 @@ module _ {D : Type 0} (agrees : D → Type 0) (meaning : D → Meaning) (grouped
       let m = q.means in
       (after d e a q.agrees q.sound m.0.same m.1 (more (reads p buf buf') (Ok u) e none (goes d a) m) (omega arith), m.0.value)
 
-  read_spoiled : (d e : D) (p : ℕ) (buf buf' : List ℕ) → R d → Reads p buf buf' d (Err PageSpoiled) e → K 1 d e × ((meaning d).shown p ≡ spoiled) × (buf' ≡ buf)
+  read_spoiled : (d e : D) (p : ℕ) (buf buf' : List ℕ) → R d → Reads p buf buf' d (Err PageSpoiled) e → K 1 d e × ((meaning d).shown p ≡ spoiled)
   unfolding made
   read_spoiled d e p buf buf' a f =
       let q = f a.below in
       let m = q.means in
-      (after d e a q.agrees q.sound m.0.1.same m.1.base (more (reads p buf buf') (Err PageSpoiled) e none (goes d a) m) (omega arith), m.0.1.value, m.0.0)
+      (after d e a q.agrees q.sound m.0.1.same m.1.base (more (reads p buf buf') (Err PageSpoiled) e none (goes d a) m) (omega arith), m.0.1.value)
 
   read_lost : (d e : D) (p : ℕ) (buf buf' : List ℕ) → R d → Reads p buf buf' d (Err PowerLost) e → F 1 d e
   unfolding made
@@ -188,12 +187,6 @@ module _ {D : Type 0} (agrees : D → Type 0) (meaning : D → Meaning) (grouped
 
 -- ---- one page
 
-read_shown : (p : ℕ) (buf buf' : List ℕ) (f : ℕ → State) → f p ≡ bytes buf' → PageRead p buf buf' f true
-read_shown p buf buf' f e = record { shown = λ t. e; not_shown = λ t. absurd (both_ways true t refl); untouched = λ t. absurd (both_ways true t refl) }
-
-read_not_shown : (p : ℕ) (buf buf' : List ℕ) (f : ℕ → State) → f p ≡ spoiled → buf' ≡ buf → PageRead p buf buf' f false
-read_not_shown p buf buf' f e u = record { shown = λ t. absurd (both_ways false refl t); not_shown = λ t. e; untouched = λ t. u }
-
 -- a device shows what it shows
 pub shows_self : (m : Meaning) → Shows m m.count m.shown
 shows_self m = record { count = refl; pages = λ i l. refl }
@@ -202,26 +195,17 @@ shows_self m = record { count = refl; pages = λ i l. refl }
 page_shown : (m : Meaning) (n : ℕ) (f : ℕ → State) (p : ℕ) (s : State) → Shows m n f → p < m.count → m.shown p ≡ s → f p ≡ s
 page_shown m n f p s w h e = sym (w.pages p (subst (λ c. p < c) w.count h)) ∙ e
 
-module _ {D : Type 0} (agrees : D → Type 0) (meaning : D → Meaning) (grouped : D → Grouped) (d e : D) (p : ℕ) (buf buf' : List ℕ) where
-  -- a read of a page below the count finds what the page shows, and is refused by 11 alone
-  pub looks_read : (r : Answer) → GroupDoes agrees meaning grouped (reads p buf buf') d r e → p < (meaning d).count → length buf ≡ 252
-      → Looks agrees meaning grouped 1 d (told r) e (λ n f b. PageRead p buf buf' f b)
-  looks_read (Ok u) q h l a =
-      let k = read_done agrees meaning grouped d e p buf buf' u a q in
-      (k.0, λ n f s. read_shown p buf buf' f (page_shown (meaning d) n f p (bytes buf') s h k.1))
-  looks_read (Err NoSuchPage) q h l a = absurd (omega (arith, (q a.below).means.0.1.past))
-  looks_read (Err BufferSize) q h l a = absurd ((q a.below).means.0.1.size l)
-  looks_read (Err PowerLost) q h l a = (refl, read_lost agrees meaning grouped d e p buf buf' a q)
-  looks_read (Err PageSpoiled) q h l a =
-      let k = read_spoiled agrees meaning grouped d e p buf buf' a q in
-      (k.0, λ n f s. read_not_shown p buf buf' f (page_shown (meaning d) n f p spoiled s h k.1) k.2)
-  looks_read (Err TooManyWaiting) q h l a = absurd (q a.below).means.0.1
-
-  -- a refused read leaves the buffer
-  pub read_leaves : (r : Answer) → GroupDoes agrees meaning grouped (reads p buf buf') d r e → agrees d → IfErr (told r) (λ _. buf' ≡ buf)
-  read_leaves (Ok u) q a = tt
-  read_leaves (Err NoSuchPage) q a = (q a).means.0.0
-  read_leaves (Err BufferSize) q a = (q a).means.0.0
-  read_leaves (Err PowerLost) q a = (q a).means.0.0
-  read_leaves (Err PageSpoiled) q a = tt
-  read_leaves (Err TooManyWaiting) q a = (q a).means.0.0
+-- a read of a page below the count finds what the page shows, and is refused by 11 alone
+pub looks_read : {D : Type 0} (agrees : D → Type 0) (meaning : D → Meaning) (grouped : D → Grouped) (d e : D) (p : ℕ) (buf buf' : List ℕ) (r : Answer)
+    → GroupDoes agrees meaning grouped (reads p buf buf') d r e → p < (meaning d).count → length buf ≡ 252
+    → Looks agrees meaning grouped 1 d (shown_page r buf') e (λ n f o. PageRead p f o)
+looks_read agrees meaning grouped d e p buf buf' (Ok u) q h l a =
+    let k = read_done agrees meaning grouped d e p buf buf' u a q in
+    (k.0, λ n f s. page_shown (meaning d) n f p (bytes buf') s h k.1)
+looks_read agrees meaning grouped d e p buf buf' (Err NoSuchPage) q h l a = absurd (omega (arith, (q a.below).means.0.1.past))
+looks_read agrees meaning grouped d e p buf buf' (Err BufferSize) q h l a = absurd ((q a.below).means.0.1.size l)
+looks_read agrees meaning grouped d e p buf buf' (Err PowerLost) q h l a = (refl, read_lost agrees meaning grouped d e p buf buf' a q)
+looks_read agrees meaning grouped d e p buf buf' (Err PageSpoiled) q h l a =
+    let k = read_spoiled agrees meaning grouped d e p buf buf' a q in
+    (k.0, λ n f s. page_shown (meaning d) n f p spoiled s h k.1)
+looks_read agrees meaning grouped d e p buf buf' (Err TooManyWaiting) q h l a = absurd (q a.below).means.0.1

@@ -1,5 +1,5 @@
 -- A check of an image, put together.
-use Rattle.std.proofs.Common.{◌≡◌, ℕ, ◌+◌, ◌*◌, ◌^◌, ◌<◌, ◌≤◌, Bool, true, false, ◌⊎◌, List, [], length, MatchBool, sym, ap, ◌∙◌, subst, inl, inr, arith, pow_mono}
+use Rattle.std.proofs.Common.{◌≡◌, ℕ, ◌+◌, ◌*◌, ◌^◌, ◌<◌, ◌≤◌, ◌⊎◌, List, [], length, sym, ap, ◌∙◌, subst, inl, inr, arith, pow_mono}
 use Rattle.std.proofs.lemmas.Bool.{cases_lt}
 use Rattle.device.specs.Meaning.{State}
 use Rattle.tree.specs.Prefix.{pre}
@@ -12,19 +12,11 @@ use Rattle.pages.specs.Bytes.{Directory}
 use Rattle.pages.specs.Records.{records, BucketIs}
 use Rattle.pages.specs.Images.{shows, root, entry, named, wide, W1, W2, W3, W4, W5, W6, Meets, number_of, AllMet, Lowest}
 use Rattle.pages.specs.Checks.{Unused, InRange, LaidOut}
-use Rattle.pages.specs.Surveys.{EntriesPlaced, SiblingsFull, DepthUsed, counted, RecordsPlaced, NumberRight, TreeTested, StandsBehind}
-use Rattle.pages.specs.Gathered.{Gathered, AllStand, AllBuckets}
+use Rattle.pages.specs.Surveys.{depth_at, bytes_at, count_at, AllPlaced, EntriesPlaced, RecordsPlaced, NumberRight, TreeTested, StandsBehind}
+use Rattle.pages.specs.Gathered.{AllPaged, Gathered, AllStand, AllBuckets}
+use Rattle.pages.specs.declared.survey.Bucket.{Bucket}
+use Rattle.pages.proofs.Gathering.{paged_gathered, placed_stand, stand_placed}
 use Rattle.pages.proofs.Deciding.{Surveyed, five_from, five_entries, six_from, six_to}
-
-pub tree_told : (D S C : ℕ → ℕ) (x : Root) (w n u k : ℕ) (r : Bool) → w ≡ x.depth → NumberRight D w n → x.used ≡ n → k ≡ counted D C w (2 ^ w) → x.records ≡ k → DepthUsed D w
-    → MatchBool r (SiblingsFull D S w) (SiblingsFull D S w → ⊥)
-    → (m : ℕ) × NumberRight D x.depth m × MatchBool r (TreeTested D S C x m) (TreeTested D S C x m → ⊥)
-tree_told D S C x w n u k r e num us ct rc du si =
-    (n, subst (λ v. NumberRight D v n) e num, go r (subst (λ v. MatchBool r (SiblingsFull D S v) (SiblingsFull D S v → ⊥)) e si))
-  where
-    go : (r : Bool) → MatchBool r (SiblingsFull D S x.depth) (SiblingsFull D S x.depth → ⊥) → MatchBool r (TreeTested D S C x n) (TreeTested D S C x n → ⊥)
-    go true s = record { siblings = s; deepest = subst (DepthUsed D) e du; used = us; records = rc ∙ ct ∙ ap (λ v. counted D C v (2 ^ v)) e }
-    go false s = λ t. s t.siblings
 
 -- ---- the lowest broken condition
 
@@ -95,9 +87,9 @@ module _ (K : Rule) (n : ℕ) (e : ℕ → State) where
       below Placement h = f
       below Tree h = absurd (omega arith)
 
--- ---- from what was gathered to the conditions
+-- ---- from what was read to the conditions
 
-module _ (K : Rule) (n : ℕ) (e : ℕ → State) (x : Root) (w : ℕ) (ew : w ≡ x.depth) (w1 : W1 K n e) (rx : root e ≡ x) (E : ℕ → ℕ) (ents : (i : ℕ) → i < 64 * 4 → E i ≡ entry e i) where
+module _ (K : Rule) (n : ℕ) (e : ℕ → State) (x : Root) (w : ℕ) (ew : w ≡ x.depth) (w1 : W1 K n e) (rx : root e ≡ x) where
   dep : w ≡ (root e).depth
   dep = ew ∙ ap (λ (y : Root). y.depth) (sym rx)
 
@@ -116,106 +108,125 @@ module _ (K : Rule) (n : ℕ) (e : ℕ → State) (x : Root) (w : ℕ) (ew : w �
   of_w : (i : ℕ) → i < 2 ^ w → i < wide e
   of_w i h = subst (λ v. i < 2 ^ v) dep h
 
-  pub second_from : ((j : ℕ) → j < 4 → Directory (shows (e (1 + j)))) → Unused E w → W2 e
-  second_from d u = record { layout = d; unused = λ i h l. sym (ents i (omega arith)) ∙ u i (subst (λ v. 2 ^ v ≤ i) (sym dep) h) l }
+  -- E i is the entry i that was read
+  module _ (E : ℕ → ℕ) (ents : (i : ℕ) → i < 64 * 4 → E i ≡ entry e i) where
+    pub second_from : ((j : ℕ) → j < 4 → Directory (shows (e (1 + j)))) → Unused E w → W2 e
+    second_from d u = record { layout = d; unused = λ i h l. sym (ents i (omega arith)) ∙ u i (subst (λ v. 2 ^ v ≤ i) (sym dep) h) l }
 
-  pub second_not : (Unused E w → ⊥) → W2 e → ⊥
-  second_not un a = un (λ i h l. ents i (omega arith) ∙ a.unused i (subst (λ v. 2 ^ v ≤ i) dep h) l)
+    pub second_not : (Unused E w → ⊥) → W2 e → ⊥
+    second_not un a = un (λ i h l. ents i (omega arith) ∙ a.unused i (subst (λ v. 2 ^ v ≤ i) dep h) l)
 
-  pub third_from : InRange E w x.limit → W3 e
-  third_from r i h = let q = r i (to_w i h) in (omega (arith, q.0, ents i (within i h)), omega (arith, q.1, ents i (within i h), lim))
+    pub third_from : InRange E w x.limit → W3 e
+    third_from r i h = let q = r i (to_w i h) in (omega (arith, q.0, ents i (within i h)), omega (arith, q.1, ents i (within i h), lim))
 
-  pub third_not : (InRange E w x.limit → ⊥) → W3 e → ⊥
-  third_not un a = un (λ i h. let q = a i (of_w i h) in (omega (arith, q.0, ents i (within i (of_w i h))), omega (arith, q.1, ents i (within i (of_w i h)), lim)))
+    pub third_not : (InRange E w x.limit → ⊥) → W3 e → ⊥
+    third_not un a = un (λ i h. let q = a i (of_w i h) in (omega (arith, q.0, ents i (within i (of_w i h))), omega (arith, q.1, ents i (within i (of_w i h)), lim)))
 
-  page : (i : ℕ) → i < wide e → shows (e (E i)) ≡ named e i
-  page i h = ap (λ k. shows (e k)) (ents i (within i h))
+  -- of a used entry
+  module _ (E : ℕ → ℕ) (used : (i : ℕ) → i < 2 ^ w → E i ≡ entry e i) where
+    page : (i : ℕ) → i < wide e → shows (e (E i)) ≡ named e i
+    page i h = ap (λ k. shows (e k)) (used i (to_w i h))
 
-  pub fourth_not : (AllBuckets K (λ i. shows (e (E i))) (2 ^ w) → ⊥) → W4 K e → ⊥
-  fourth_not un a = un (λ i h. let h0 = of_w i h in let b = a i h0 in (b.0, b.1, subst (λ p. BucketIs p b.0 b.1) (sym (page i h0)) b.2, b.3))
+    pub fourth_not : (AllBuckets K (λ i. shows (e (E i))) (2 ^ w) → ⊥) → W4 K e → ⊥
+    fourth_not un a = un (λ i h. let h0 = of_w i h in let b = a i h0 in (b.0, b.1, subst (λ p. BucketIs p b.0 b.1) (sym (page i h0)) b.2, b.3))
 
-  module _ (D S C : ℕ → ℕ) (g : Gathered K (λ i. shows (e (E i))) D S C (2 ^ w)) where
-    pub fourth_from : W4 K e
-    fourth_from i h = let a = g i (to_w i h) in (D i, a.recs, subst (λ p. BucketIs p (D i) a.recs) (page i h) a.is, a.fine)
+    module _ (D S C : ℕ → ℕ) (g : Gathered K (λ i. shows (e (E i))) D S C (2 ^ w)) where
+      pub fourth_from : W4 K e
+      fourth_from i h = let a = g i (to_w i h) in (D i, a.recs, subst (λ p. BucketIs p (D i) a.recs) (page i h) a.is, a.fine)
 
-    recs_of : (i : ℕ) → (i < wide e) ⊎ (wide e ≤ i) → List Rec
-    recs_of i (inl h) = (g i (to_w i h)).recs
-    recs_of i (inr h) = []
+      recs_of : (i : ℕ) → (i < wide e) ⊎ (wide e ≤ i) → List Rec
+      recs_of i (inl h) = (g i (to_w i h)).recs
+      recs_of i (inr h) = []
 
-    pub recs : ℕ → List Rec
-    recs i = recs_of i (cases_lt i (wide e))
+      pub recs : ℕ → List Rec
+      recs i = recs_of i (cases_lt i (wide e))
 
-    is_of : (i : ℕ) (t : (i < wide e) ⊎ (wide e ≤ i)) → i < wide e → BucketIs (named e i) (D i) (recs_of i t) × (S i ≡ length (records (recs_of i t))) × (C i ≡ length (recs_of i t))
-    unfolding recs_of
-    is_of i (inl h) l = let a = g i (to_w i h) in (subst (λ p. BucketIs p (D i) a.recs) (page i h) a.is, a.bytes, a.count)
-    is_of i (inr h) l = absurd (omega arith)
+      is_of : (i : ℕ) (t : (i < wide e) ⊎ (wide e ≤ i)) → i < wide e → BucketIs (named e i) (D i) (recs_of i t) × (S i ≡ length (records (recs_of i t))) × (C i ≡ length (recs_of i t))
+      unfolding recs_of
+      is_of i (inl h) l = let a = g i (to_w i h) in (subst (λ p. BucketIs p (D i) a.recs) (page i h) a.is, a.bytes, a.count)
+      is_of i (inr h) l = absurd (omega arith)
 
-    surveyed : Surveyed e E D S C recs
-    unfolding recs
-    surveyed =
-        record {
-          entries = λ i h. ents i (within i h);
-          reads = λ i h. (is_of i (cases_lt i (wide e)) h).0;
-          sizes = λ i h. (is_of i (cases_lt i (wide e)) h).1;
-          counts = λ i h. (is_of i (cases_lt i (wide e)) h).2;
-        }
+      surveyed : Surveyed e E D S C recs
+      unfolding recs
+      surveyed =
+          record {
+            entries = λ i h. used i (to_w i h);
+            reads = λ i h. (is_of i (cases_lt i (wide e)) h).0;
+            sizes = λ i h. (is_of i (cases_lt i (wide e)) h).1;
+            counts = λ i h. (is_of i (cases_lt i (wide e)) h).2;
+          }
 
-    pub fifth_from : AllStand K (λ i. shows (e (E i))) D w (2 ^ w) → EntriesPlaced E D w → W5 K e
-    fifth_from st en =
-        five_from K e E D S C recs surveyed (subst (EntriesPlaced E D) dep en)
-        (λ i h. let q = st i (to_w i h) (recs i) (subst (λ p. BucketIs p (D i) (recs i)) (sym (page i h)) (surveyed.reads i h)) in
-        subst (λ v. RecordsPlaced K (D i) (pre v i (D i)) (recs i)) dep q.1)
+      pub fifth_from : AllStand K (λ i. shows (e (E i))) D w (2 ^ w) → EntriesPlaced E D w → W5 K e
+      fifth_from st en =
+          five_from K e E D S C recs surveyed (subst (EntriesPlaced E D) dep en)
+          (λ i h. let q = st i (to_w i h) (recs i) (subst (λ p. BucketIs p (D i) (recs i)) (sym (page i h)) (surveyed.reads i h)) in
+          subst (λ v. RecordsPlaced K (D i) (pre v i (D i)) (recs i)) dep q.1)
 
-    pub fifth_not_stand : (AllStand K (λ i. shows (e (E i))) D w (2 ^ w) → ⊥) → W5 K e → ⊥
-    fifth_not_stand un a =
-        un (λ i h rs b.
-        let h0 = of_w i h in
-        let p = a i (D i) rs h0 (subst (λ q. BucketIs q (D i) rs) (page i h0) b) in
-        subst (λ v. StandsBehind K (D i) i v rs) (sym dep) (p.short, (p.hashes, p.apart)))
+      pub fifth_not_stand : (AllStand K (λ i. shows (e (E i))) D w (2 ^ w) → ⊥) → W5 K e → ⊥
+      fifth_not_stand un a =
+          un (λ i h rs b.
+          let h0 = of_w i h in
+          let p = a i (D i) rs h0 (subst (λ q. BucketIs q (D i) rs) (page i h0) b) in
+          subst (λ v. StandsBehind K (D i) i v rs) (sym dep) (p.short, (p.hashes, p.apart)))
 
-    pub fifth_not_entries : (EntriesPlaced E D w → ⊥) → W5 K e → ⊥
-    fifth_not_entries un a = un (subst (EntriesPlaced E D) (sym dep) (five_entries K e E D S C recs surveyed a))
+      pub fifth_not_entries : (EntriesPlaced E D w → ⊥) → W5 K e → ⊥
+      fifth_not_entries un a = un (subst (EntriesPlaced E D) (sym dep) (five_entries K e E D S C recs surveyed a))
 
-    pub sixth_from : W5 K e → (r : ℕ) → NumberRight D x.depth r → TreeTested D S C x r → W6 K e
-    sixth_from w5 r num t =
-        six_from K e E D S C recs surveyed w1.deep w5 r (subst (λ (y : Root). NumberRight D y.depth r) (sym rx) num) (subst (λ (y : Root). TreeTested D S C y r) (sym rx) t)
+      pub sixth_from : W5 K e → (r : ℕ) → NumberRight D x.depth r → TreeTested D S C x r → W6 K e
+      sixth_from w5 r num t =
+          six_from K e E D S C recs surveyed w1.deep w5 r (subst (λ (y : Root). NumberRight D y.depth r) (sym rx) num) (subst (λ (y : Root). TreeTested D S C y r) (sym rx) t)
 
-    pub sixth_not : W5 K e → (r : ℕ) → NumberRight D x.depth r → (TreeTested D S C x r → ⊥) → W6 K e → ⊥
-    sixth_not w5 r num un a =
-        un (subst (λ (y : Root). TreeTested D S C y r) rx (six_to K e E D S C recs surveyed w1.deep w5 r (subst (λ (y : Root). NumberRight D y.depth r) (sym rx) num) a))
+      pub sixth_not : W5 K e → (r : ℕ) → NumberRight D x.depth r → (TreeTested D S C x r → ⊥) → W6 K e → ⊥
+      sixth_not w5 r num un a =
+          un (subst (λ (y : Root). TreeTested D S C y r) rx (six_to K e E D S C recs surveyed w1.deep w5 r (subst (λ (y : Root). NumberRight D y.depth r) (sym rx) num) a))
 
 -- ---- the last three conditions, where the first three hold
 
-module _ (K : Rule) (n : ℕ) (e : ℕ → State) (x : Root) (w : ℕ) (ew : w ≡ x.depth) (E : ℕ → ℕ) (l : LaidOut K n e x E) where
+module _ (K : Rule) (n : ℕ) (e : ℕ → State) (x : Root) (w : ℕ) (ew : w ≡ x.depth) (E : ℕ → ℕ) (l : LaidOut K n e x E) (U : ℕ → ℕ) (same : (i : ℕ) → i < 2 ^ w → U i ≡ E i) where
   abbrev P : ℕ → List ℕ
-  P i = shows (e (E i))
+  P i = shows (e (U i))
+
+  used : (i : ℕ) → i < 2 ^ w → U i ≡ entry e i
+  used i h = same i h ∙ l.entries i (within K n e x w ew l.first l.rooted i (of_w K n e x w ew l.first l.rooted i h))
 
   -- each page named is below the count
-  pub named_below : (i : ℕ) → i < 2 ^ w → E i < n
+  pub named_below : (i : ℕ) → i < 2 ^ w → U i < n
   named_below i h =
-      let h0 = of_w K n e x w ew l.first l.rooted E l.entries i h in
-      let q = l.third i h0 in
-      omega (arith, q.1, l.first.room, l.entries i (within K n e x w ew l.first l.rooted E l.entries i h0))
+      let q = l.third i (of_w K n e x w ew l.first l.rooted i h) in
+      omega (arith, q.1, l.first.room, used i h)
 
   pub broken_4 : (AllBuckets K P (2 ^ w) → ⊥) → Lowest K n e BucketPages
-  broken_4 un = lowest_4 K n e l.first l.second l.third (fourth_not K n e x w ew l.first l.rooted E l.entries un)
+  broken_4 un = lowest_4 K n e l.first l.second l.third (fourth_not K n e x w ew l.first l.rooted U used un)
 
-  module _ (D S C : ℕ → ℕ) (g : Gathered K P D S C (2 ^ w)) where
+  -- the buckets that were gathered
+  module _ (bs : List Bucket) (a : AllPaged K P w bs (2 ^ w)) where
+    abbrev D : ℕ → ℕ
+    D = depth_at bs
+
+    abbrev S : ℕ → ℕ
+    S = bytes_at bs
+
+    abbrev C : ℕ → ℕ
+    C = count_at bs
+
+    g : Gathered K P D S C (2 ^ w)
+    g = paged_gathered K P w bs (2 ^ w) a
+
     fourth : W4 K e
-    fourth = fourth_from K n e x w ew l.first l.rooted E l.entries D S C g
+    fourth = fourth_from K n e x w ew l.first l.rooted U used D S C g
 
-    pub broken_5_records : (AllStand K P D w (2 ^ w) → ⊥) → Lowest K n e Placement
-    broken_5_records un = lowest_5 K n e l.first l.second l.third fourth (fifth_not_stand K n e x w ew l.first l.rooted E l.entries D S C g un)
+    pub broken_5_records : (AllPlaced bs w → ⊥) → Lowest K n e Placement
+    broken_5_records un = lowest_5 K n e l.first l.second l.third fourth (fifth_not_stand K n e x w ew l.first l.rooted U used D S C g (λ q. un (stand_placed K P w bs (2 ^ w) a q)))
 
-    pub broken_5_entries : (EntriesPlaced E D w → ⊥) → Lowest K n e Placement
-    broken_5_entries un = lowest_5 K n e l.first l.second l.third fourth (fifth_not_entries K n e x w ew l.first l.rooted E l.entries D S C g un)
+    pub broken_5_entries : (EntriesPlaced U D w → ⊥) → Lowest K n e Placement
+    broken_5_entries un = lowest_5 K n e l.first l.second l.third fourth (fifth_not_entries K n e x w ew l.first l.rooted U used D S C g un)
 
-    module _ (st : AllStand K P D w (2 ^ w)) (en : EntriesPlaced E D w) (r : ℕ) (num : NumberRight D x.depth r) where
+    module _ (pl : AllPlaced bs w) (en : EntriesPlaced U D w) (r : ℕ) (num : NumberRight D x.depth r) where
       fifth : W5 K e
-      fifth = fifth_from K n e x w ew l.first l.rooted E l.entries D S C g st en
+      fifth = fifth_from K n e x w ew l.first l.rooted U used D S C g (placed_stand K P w bs (2 ^ w) a pl) en
 
       pub broken_6 : (TreeTested D S C x r → ⊥) → Lowest K n e Tree
-      broken_6 un = lowest_6 K n e l.first l.second l.third fourth fifth (sixth_not K n e x w ew l.first l.rooted E l.entries D S C g fifth r num un)
+      broken_6 un = lowest_6 K n e l.first l.second l.third fourth fifth (sixth_not K n e x w ew l.first l.rooted U used D S C g fifth r num un)
 
       pub all_six : TreeTested D S C x r → AllMet K n e × (root e ≡ x)
       all_six t = (
@@ -225,13 +236,7 @@ module _ (K : Rule) (n : ℕ) (e : ℕ → State) (x : Root) (w : ℕ) (ew : w �
           third = l.third;
           fourth = fourth;
           fifth = fifth;
-          sixth = sixth_from K n e x w ew l.first l.rooted E l.entries D S C g fifth r num t;
+          sixth = sixth_from K n e x w ew l.first l.rooted U used D S C g fifth r num t;
         },
         l.rooted,
       )
-
-pub when_true : (A B : Type 0) (b : Bool) → b ≡ true → MatchBool b A B → A
-when_true A B b e w = subst (λ v. MatchBool v A B) e w
-
-pub when_false : (A B : Type 0) (b : Bool) → b ≡ false → MatchBool b A B → B
-when_false A B b e w = subst (λ v. MatchBool v A B) e w

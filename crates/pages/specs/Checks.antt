@@ -1,9 +1,12 @@
 -- What the parts of a check of an image answer.
-use Rattle.std.specs.Prelude.{◌≡◌, ℕ, ◌+◌, ◌*◌, ◌^◌, ◌<◌, ◌≤◌, List, Result, MatchResult}
+use Rattle.std.specs.Prelude.{◌≡◌, ℕ, ◌+◌, ◌*◌, ◌^◌, ◌<◌, ◌≤◌, List, Ok, Err, Result, MatchResult}
+use Rattle.device.specs.declared.DeviceFault.{DeviceFault}
 use Rattle.device.specs.Meaning.{State}
 use Rattle.keys.specs.Rule.{Rule}
 use Rattle.pages.specs.declared.root.Root.{Root}
 use Rattle.pages.specs.declared.root.Condition.{Condition}
+use Rattle.pages.specs.declared.fault.CheckFault.{CheckFault}
+use Rattle.pages.specs.declared.fault.CheckFault.TheVariants.{Broken, Device}
 use Rattle.pages.specs.Bytes.{entry_at, Directory}
 use Rattle.pages.specs.Images.{shows, root, entry, W1, W2, W3, AllMet, Lowest}
 use Rattle.pages.specs.Surveys.{at}
@@ -36,6 +39,12 @@ pub record LaidOut (R : Rule) (n : ℕ) (e : ℕ → State) (x : Root) (E : ℕ 
 -- the first j directory pages are by layout, and their entries were read
 abbrev pub DirectoriesRead : (ℕ → State) → ℕ → List ℕ → Type 0
 DirectoriesRead f j entries = ((m : ℕ) → m < j → Directory (shows (f (1 + m)))) × ((i : ℕ) → i < 64 * j → at entries i ≡ entry f i)
+
+-- what a check decides, apart from the refusals of the device
+abbrev pub decision : {T : Type 0} → Result T CheckFault → Result (Result T Condition) DeviceFault
+decision (Ok x) = Ok (Ok x)
+decision (Err (Broken c)) = Ok (Err c)
+decision (Err (Device f)) = Err f
 
 -- the decision on an image: all six conditions hold, and these are the numbers of page 0; or this is the lowest that is broken
 abbrev pub Decided : Rule → ℕ → (ℕ → State) → Result Root Condition → Type 0

@@ -3,10 +3,10 @@ use Rattle.std.specs.Prelude.{◌≡◌, ℕ, ◌<◌, List, length}
 use Rattle.std.specs.List.{AllByRecursion}
 use Rattle.keys.specs.Rule.{Rule}
 use Rattle.tree.specs.Maps.{Rec}
-use Rattle.pages.specs.declared.check.Bucket.{Bucket}
+use Rattle.pages.specs.declared.survey.Bucket.{Bucket}
 use Rattle.pages.specs.Tells.{Tells}
 use Rattle.pages.specs.Records.{records, BucketIs, Fine}
-use Rattle.pages.specs.Surveys.{StandsBehind}
+use Rattle.pages.specs.Surveys.{bucket_at, StandsBehind}
 
 -- of one page: it is a bucket by layout whose records may stand in a page, and b has its local depth, the bytes and the number of its records, and whether they stand rightly behind entry i of
 -- a directory of w bits
@@ -17,6 +17,10 @@ pub record Paged (R : Rule) (page : List ℕ) (w i : ℕ) (b : Bucket) : Type 0 
   pub bytes : b.bytes ≡ length (records recs)
   pub count : b.count ≡ length recs
   pub placed : Tells b.placed (StandsBehind R b.depth i w recs)
+
+-- the same of the pages of all entries below n
+abbrev pub AllPaged : Rule → (ℕ → List ℕ) → ℕ → List Bucket → ℕ → Type 0
+AllPaged R P w bs n = (i : ℕ) → i < n → Paged R (P i) w i (bucket_at bs i)
 
 -- a page is a bucket by layout of local depth d, with s bytes in c records, which may stand in a page
 pub record GatheredAt (R : Rule) (page : List ℕ) (d s c : ℕ) : Type 0 where

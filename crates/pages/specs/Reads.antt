@@ -1,7 +1,6 @@
 -- Reads of a group device: what they find, and that they leave the device as it was.
-use Rattle.std.specs.Prelude.{◌≡◌, ℕ, suc, ◌≤◌, Bool, true, false, List, Ok, Err, Result, MatchResult}
+use Rattle.std.specs.Prelude.{◌≡◌, ℕ, suc, ◌≤◌, Bool, true, false, List, Option, MatchOption, Result, MatchResult}
 use Rattle.device.specs.declared.DeviceFault.{DeviceFault}
-use Rattle.device.specs.declared.DeviceFault.TheVariants.{NoSuchPage, BufferSize, PowerLost, PageSpoiled, TooManyWaiting}
 use Rattle.device.specs.Meaning.{State, bytes, spoiled, Meaning, Grouped, SoundGroup, Alike}
 use Rattle.device.specs.Numbers.{number}
 use Rattle.device.specs.Promises.{Same, Lost}
@@ -54,17 +53,6 @@ Looks agrees meaning grouped k d r e P =
     Ready agrees meaning grouped d
     → MatchResult r (λ x. Kept agrees meaning grouped k d e × Seen (meaning d) (λ n f. P n f x)) (λ f. (number f ≡ 11) × Failed agrees meaning grouped k d e)
 
--- a read of page p of the image f, answered b: the buffer has the page's bytes; or the page is spoiled, and the buffer is as it was
-pub record PageRead (p : ℕ) (buf buf' : List ℕ) (f : ℕ → State) (b : Bool) : Type 0 where
-  pub shown : b ≡ true → f p ≡ bytes buf'
-  pub not_shown : b ≡ false → f p ≡ spoiled
-  pub untouched : b ≡ false → buf' ≡ buf
-
--- the answer of a read, for which a spoiled page is no refusal: whether the page's bytes were read
-abbrev pub told : Answer → Result Bool DeviceFault
-told (Ok _) = Ok true
-told (Err NoSuchPage) = Err NoSuchPage
-told (Err BufferSize) = Err BufferSize
-told (Err PowerLost) = Err PowerLost
-told (Err PageSpoiled) = Ok false
-told (Err TooManyWaiting) = Err TooManyWaiting
+-- a read of page p of the image f: the page's bytes; none where it is spoiled
+abbrev pub PageRead : ℕ → (ℕ → State) → Option (List ℕ) → Type 0
+PageRead p f o = MatchOption o (f p ≡ spoiled) (λ page. f p ≡ bytes page)

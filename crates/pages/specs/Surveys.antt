@@ -1,6 +1,6 @@
 -- What a check of an image gathers of each entry, and what it then tests. E i is the page that entry i names, D i that page's local depth, S i the bytes and C i the number of its records; the
 -- directory has w bits.
-use Rattle.std.specs.Prelude.{◌≡◌, ℕ, zero, suc, ◌+◌, ◌-◌, ◌%◌, ◌^◌, ◌<◌, ◌≤◌, cond, ◌⊎◌, List, ◌==◌, slice_index}
+use Rattle.std.specs.Prelude.{◌≡◌, ℕ, zero, suc, ◌+◌, ◌-◌, ◌%◌, ◌^◌, ◌<◌, ◌≤◌, cond, true, false, ◌⊎◌, List, ◌==◌, slice_index, slice_index_or}
 use Rattle.std.specs.List.{AllByRecursion}
 use Rattle.keys.specs.Rule.{Rule}
 use Rattle.tree.specs.Prefix.{pre, sib}
@@ -8,10 +8,32 @@ use Rattle.tree.specs.Loads.{Loads, Splits, hashed}
 use Rattle.tree.specs.Trees.{Falls, number}
 use Rattle.tree.specs.Maps.{Rec, Apart}
 use Rattle.pages.specs.declared.root.Root.{Root}
+use Rattle.pages.specs.declared.survey.Bucket.{Bucket}
 
 -- what an array has for entry i
 abbrev pub at : List ℕ → ℕ → ℕ
 at xs i = slice_index xs i
+
+-- the bucket that an array has for entry i, and its local depth, the bytes and the number of its records
+abbrev pub bucket_at : List Bucket → ℕ → Bucket
+bucket_at bs i = slice_index_or bs i (record { depth = 0; bytes = 0; count = 0; placed = false })
+
+abbrev pub depth_at : List Bucket → ℕ → ℕ
+depth_at bs i = (bucket_at bs i).depth
+
+abbrev pub bytes_at : List Bucket → ℕ → ℕ
+bytes_at bs i = (bucket_at bs i).bytes
+
+abbrev pub count_at : List Bucket → ℕ → ℕ
+count_at bs i = (bucket_at bs i).count
+
+-- no bucket has more bits than the directory
+abbrev pub Narrow : List Bucket → ℕ → Type 0
+Narrow bs w = (i : ℕ) → i < 2 ^ w → depth_at bs i ≤ w
+
+-- nor records that stand behind a wrong entry
+abbrev pub AllPlaced : List Bucket → ℕ → Type 0
+AllPlaced bs w = (i : ℕ) → i < 2 ^ w → ((bucket_at bs i).placed ≡ true) × (depth_at bs i ≤ w)
 
 -- entry j names the page of entry i exactly if it begins with that page's prefix
 abbrev pub EntryAgrees : (ℕ → ℕ) → (ℕ → ℕ) → ℕ → ℕ → ℕ → Type 0
@@ -29,9 +51,13 @@ EntriesPlaced E D w = (i : ℕ) → i < 2 ^ w → EntryPlaced E D w i
 abbrev pub PairFull : (ℕ → ℕ) → (ℕ → ℕ) → ℕ → ℕ → ℕ → Type 0
 PairFull D S w i j = D j ≡ D i → 0 < D i → pre w j (D i) ≡ sib (pre w i (D i)) → 248 < S i + S j
 
+-- the same of entry i and any other
+abbrev pub SiblingFull : (ℕ → ℕ) → (ℕ → ℕ) → ℕ → ℕ → Type 0
+SiblingFull D S w i = (j : ℕ) → j < 2 ^ w → PairFull D S w i j
+
 -- the same of all pairs
 abbrev pub SiblingsFull : (ℕ → ℕ) → (ℕ → ℕ) → ℕ → Type 0
-SiblingsFull D S w = (i : ℕ) → i < 2 ^ w → (j : ℕ) → j < 2 ^ w → PairFull D S w i j
+SiblingsFull D S w = (i : ℕ) → i < 2 ^ w → SiblingFull D S w i
 
 -- some page has all the bits of the directory
 abbrev pub DepthUsed : (ℕ → ℕ) → ℕ → Type 0

@@ -1,19 +1,21 @@
 //! Whether the pages that a device shows are a well-formed image.
-ghost use Rattle.std.specs.Prelude.{◌≡◌, ℕ, ◌+◌, ◌^◌, ◌<◌, ◌≤◌, List, length, IfSome, IfOk, MatchBool, MatchOption, MatchResult};
+ghost use Rattle.std.specs.Prelude.{◌≡◌, ℕ, ◌+◌, ◌^◌, ◌<◌, ◌≤◌, List, length, take, IfSome, IfOk, MatchOption, MatchResult};
 ghost use Rattle.tree.specs.Maps.{Rec};
 ghost use Rattle.pages.specs.Bytes.{Directory};
-ghost use Rattle.pages.specs.Checks.{RootFits, Copied, DirectoriesRead, Unused, InRange, LaidOut, Decided};
-ghost use Rattle.pages.specs.Gathered.{Paged, Gathered, AllStand, AllBuckets};
+ghost use Rattle.pages.specs.Checks.{RootFits, Copied, DirectoriesRead, Unused, InRange, LaidOut, decision, Decided};
+ghost use Rattle.pages.specs.Gathered.{Paged, AllPaged, AllBuckets};
 ghost use Rattle.pages.specs.Images.{W1, shows, root, Lowest};
 ghost use Rattle.pages.specs.Reads.{Looks, Seen};
 ghost use Rattle.pages.specs.Records.{records, NoBucket};
-ghost use Rattle.pages.specs.Surveys.{at, StandsBehind, NumberRight, TreeTested};
+ghost use Rattle.pages.specs.Surveys.{at, StandsBehind};
 ghost use Rattle.pages.specs.Tells.{Tells};
 
+use crate::fault::CheckFault;
 use crate::reading::read_page;
 use crate::root::{Condition, Root};
+use crate::survey::{Bucket, Survey};
 use crate::{bucket, directory, records, root, survey};
-use device::{Device, DeviceFault, GroupDevice};
+use device::{Device, DeviceFault, GroupDevice, Page};
 use keys::KeyRule;
 
 /// Whether the numbers of page 0 fit a rule and a count of pages.
@@ -33,11 +35,9 @@ fn check_root<D: GroupDevice, K: KeyRule>(device: &mut D) -> Result<Option<Root>
     ensures deep { IfOk result (λ o. IfSome o (λ x. x.depth ≤ 8)) }
 {
     let count = device.page_count();
-    let mut page = [0u8; 252];
-    let shown = read_page(device, 0, &mut page)?;
-    if !shown {
+    let Some(page) = read_page(device, 0)? else {
         return Ok(None);
-    }
+    };
     let Some(found) = root::read_root(&page) else {
         return Ok(None);
     };
@@ -48,7 +48,7 @@ fn check_root<D: GroupDevice, K: KeyRule>(device: &mut D) -> Result<Option<Root>
 }
 
 /// Copies the entries of directory page j to their places.
-fn copy_entries(page: &[u8; 252], j: usize, entries: &mut [u16; 256])
+fn copy_entries(page: &Page, j: usize, entries: &mut [u16; 256])
     requires { j < 4 }
     ensures { Copied page.now entries.old entries.new j }
 {
@@ -62,13 +62,7 @@ fn unused_zero(entries: &[u16; 256], depth: u32) -> bool
     requires { depth ≤ 8 }
     ensures { Tells result (Unused (at entries.now) depth) }
 {
-    let wide = 1usize << depth;
-    for i in wide..256 {
-        if entries[i] != 0 {
-            return false;
-        }
-    }
-    true
+    entries[1usize << depth..].iter().all(|entry| *entry == 0)
 }
 
 /// Whether the used entries name pages that may be buckets.
@@ -76,43 +70,25 @@ fn in_range(entries: &[u16; 256], depth: u32, limit: u16) -> bool
     requires { depth ≤ 8 }
     ensures { Tells result (InRange (at entries.now) depth limit) }
 {
-    let wide = 1usize << depth;
-    for i in 0..wide {
-        if entries[i] < 5 || u32::from(entries[i]) > 4 + u32::from(limit) {
-            return false;
-        }
-    }
-    true
+    entries[..1usize << depth].iter().all(|entry| *entry >= 5
+        && u32::from(*entry) <= 4 + u32::from(limit))
 }
 
-/// Reads the entries of the directory; false where some directory page is not by layout.
-fn read_directory<D: GroupDevice>(
-    device: &mut D,
-    entries: &mut [u16; 256],
-) -> Result<bool, DeviceFault>
-    ensures { 5 < (D.Device.meaning device.old).count → Looks D.Device.agrees D.Device.meaning D.GroupDevice.grouped 4 device.old result device.new (λ n f b. MatchBool b (DirectoriesRead f 4 entries.new) (((j : ℕ) → j < 4 → Directory (shows (f (1 + j)))) → ⊥)) }
+/// The entries of the directory; none where some directory page is not by layout.
+fn read_directory<D: GroupDevice>(device: &mut D) -> Result<Option<[u16; 256]>, DeviceFault>
+    ensures { 5 < (D.Device.meaning device.old).count → Looks D.Device.agrees D.Device.meaning D.GroupDevice.grouped 4 device.old result device.new (λ n f o. MatchOption o (((j : ℕ) → j < 4 → Directory (shows (f (1 + j)))) → ⊥) (λ entries. DirectoriesRead f 4 entries)) }
 {
+    let mut entries = [0u16; 256];
     for j in 0..4usize {
-        let mut page = [0u8; 252];
-        let shown = read_page(device, 1 + j, &mut page)?;
-        if !shown {
-            return Ok(false);
-        }
+        let Some(page) = read_page(device, 1 + j)? else {
+            return Ok(None);
+        };
         if !directory::is_directory(&page) {
-            return Ok(false);
+            return Ok(None);
         }
-        copy_entries(&page, j, entries);
+        copy_entries(&page, j, &mut entries);
     }
-    Ok(true)
-}
-
-/// What a check gathers of a bucket: its local depth, the bytes and the number of its records, and whether they stand behind the right entry.
-#[derive(Clone, Copy)]
-pub(crate) struct Bucket {
-    pub depth: u8,
-    pub bytes: u16,
-    pub count: u16,
-    pub placed: bool,
+    Ok(Some(entries))
 }
 
 /// Reads the bucket that entry i names; none where its page is not a bucket by layout whose records may stand in a page.
@@ -126,19 +102,17 @@ fn read_named<D: GroupDevice, K: KeyRule>(
     requires entry { i < 2 ^ depth }
     ensures { number < (D.Device.meaning device.old).count → Looks D.Device.agrees D.Device.meaning D.GroupDevice.grouped 1 device.old result device.new (λ n f o. MatchOption o (NoBucket K.KeyRule.rule.valid (shows (f number))) (λ b. Paged K.KeyRule.rule (shows (f number)) depth i b)) }
 {
-    let mut page = [0u8; 252];
-    let shown = read_page(device, number, &mut page)?;
-    if !shown {
-        return Ok(None);
-    }
-    let Some((bits, bytes)) = bucket::read_bucket::<K>(&page) else {
+    let Some(page) = read_page(device, number)? else {
         return Ok(None);
     };
-    let count = records::count_records(bytes);
-    let placed = bucket_placed::<K>(bytes, u32::from(bits), i, depth);
+    let Some(found) = bucket::read_bucket::<K>(&page) else {
+        return Ok(None);
+    };
+    let count = records::count_records(found.records);
+    let placed = bucket_placed::<K>(found.records, u32::from(found.depth), i, depth);
     Ok(Some(Bucket {
-        depth: bits,
-        bytes: bytes.len() as u16,
+        depth: found.depth,
+        bytes: found.records.len() as u16,
         count: count as u16,
         placed,
     }))
@@ -157,133 +131,103 @@ fn bucket_placed<K: KeyRule>(bytes: &[u8], bits: u32, i: usize, depth: u32) -> b
     survey::records_placed::<K>(bytes, bits, prefix)
 }
 
-/// Reads the buckets that the used entries name, and gathers of each its local depth, bytes and number of records; says whether all records stand behind
-/// the right entry. None where some page is not a bucket by layout whose records may stand in a page.
+/// What is gathered of the buckets that the used entries name, each at its entry's place; none where some page is not a bucket by layout whose records may
+/// stand in a page.
 fn read_buckets<D: GroupDevice, K: KeyRule>(
     device: &mut D,
-    entries: &[u16; 256],
+    entries: &[u16],
     depth: u32,
-    depths: &mut [u8; 256],
-    sizes: &mut [u16; 256],
-    counts: &mut [u16; 256],
-) -> Result<Option<bool>, DeviceFault>
+) -> Result<Option<[Bucket; 256]>, DeviceFault>
     requires deep { depth ≤ 8 }
-    ensures { ((i : ℕ) → i < 2 ^ depth → at entries.now i < (D.Device.meaning device.old).count) → Looks D.Device.agrees D.Device.meaning D.GroupDevice.grouped (2 ^ depth) device.old result device.new (λ n f o. MatchOption o (AllBuckets K.KeyRule.rule (λ i. shows (f (at entries.now i))) (2 ^ depth) → ⊥) (λ p. Gathered K.KeyRule.rule (λ i. shows (f (at entries.now i))) (at depths.new) (at sizes.new) (at counts.new) (2 ^ depth) × Tells p (AllStand K.KeyRule.rule (λ i. shows (f (at entries.now i))) (at depths.new) depth (2 ^ depth)))) }
+    requires wide { length entries.now ≡ 2 ^ depth }
+    ensures { ((i : ℕ) → i < 2 ^ depth → at entries.now i < (D.Device.meaning device.old).count) → Looks D.Device.agrees D.Device.meaning D.GroupDevice.grouped (2 ^ depth) device.old result device.new (λ n f o. MatchOption o (AllBuckets K.KeyRule.rule (λ i. shows (f (at entries.now i))) (2 ^ depth) → ⊥) (λ buckets. AllPaged K.KeyRule.rule (λ i. shows (f (at entries.now i))) depth buckets (2 ^ depth))) }
 {
-    let wide = 1usize << depth;
-    let mut placed = true;
-    for i in 0..wide {
-        let bucket = read_named::<D, K>(device, usize::from(entries[i]), i, depth)?;
+    let mut buckets = [Bucket {
+        depth: 0,
+        bytes: 0,
+        count: 0,
+        placed: false,
+    }; 256];
+    for (i, entry) in entries.iter().enumerate() {
+        let bucket = read_named::<D, K>(device, usize::from(*entry), i, depth)?;
         let Some(found) = bucket else {
             return Ok(None);
         };
-        depths[i] = found.depth;
-        sizes[i] = found.bytes;
-        counts[i] = found.count;
-        placed = placed & found.placed;
+        buckets[i] = found;
     }
-    Ok(Some(placed))
+    Ok(Some(buckets))
 }
 
-/// Whether what was gathered is a tree's, and the numbers of page 0 are right.
-fn tree_right(x: Root, depths: &[u8], sizes: &[u16], counts: &[u16]) -> bool
-    requires deep { x.depth ≤ 8 }
-    requires depths { 2 ^ x.depth ≤ length depths.now }
-    requires sizes { 2 ^ x.depth ≤ length sizes.now }
-    requires counts { 2 ^ x.depth ≤ length counts.now }
-    requires short { (i : ℕ) → i < 2 ^ x.depth → at depths.now i ≤ x.depth }
-    ensures { (n : ℕ) × NumberRight (at depths.now) x.depth n × Tells result (TreeTested (at depths.now) (at sizes.now) (at counts.now) x n) }
-{
-    let depth = u32::from(x.depth);
-    let pages = survey::count_pages(depths, depth);
-    if u32::from(x.used) != pages {
-        return false;
-    }
-    if x.records != survey::count_all(depths, counts, depth) {
-        return false;
-    }
-    if !survey::depth_used(depths, depth) {
-        return false;
-    }
-    survey::siblings_full(depths, sizes, depth)
+/// The numbers of page 0 and the entries of the directory, of an image whose first three conditions hold.
+#[derive(Clone, Copy)]
+struct Layout {
+    root: Root,
+    entries: [u16; 256],
+    ghost deep: { root.depth ≤ 8 },
 }
 
-/// Reads page 0 and the directory; else the lowest of the first three conditions that is broken.
-fn check_layout<D: GroupDevice, K: KeyRule>(
-    device: &mut D,
-    entries: &mut [u16; 256],
-) -> Result<Result<Root, Condition>, DeviceFault>
-    ensures looks { 5 < (D.Device.meaning device.old).count → Looks D.Device.agrees D.Device.meaning D.GroupDevice.grouped 5 device.old result device.new (λ n f c. MatchResult c (λ x. LaidOut K.KeyRule.rule n f x (at entries.new)) (λ b. Lowest K.KeyRule.rule n f b)) }
-    ensures deep { IfOk result (λ c. IfOk c (λ x. x.depth ≤ 8)) }
+impl Layout {
+    /// How many bits the directory has.
+    fn depth(&self) -> u32
+        ensures is { result ≡ self.now.root.depth }
+        ensures deep { result ≤ 8 }
+    {
+        u32::from(self.root.depth)
+    }
+
+    /// The used entries.
+    fn used(&self) -> &[u16]
+        ensures first { result.now ≡ take (2 ^ self.now.root.depth) self.now.entries }
+        ensures wide { length result.now ≡ 2 ^ self.now.root.depth }
+    {
+        &self.entries[..1usize << self.root.depth]
+    }
+}
+
+/// Page 0 and the directory; else the lowest of the first three conditions that is broken.
+fn check_layout<D: GroupDevice, K: KeyRule>(device: &mut D) -> Result<Layout, CheckFault>
+    ensures { 5 < (D.Device.meaning device.old).count → Looks D.Device.agrees D.Device.meaning D.GroupDevice.grouped 5 device.old (decision result) device.new (λ n f c. MatchResult c (λ l. LaidOut K.KeyRule.rule n f l.root (at l.entries)) (λ b. Lowest K.KeyRule.rule n f b)) }
 {
-    let root = check_root::<D, K>(device)?;
-    let Some(x) = root else {
-        return Ok(Err(Condition::RootPage));
-    };
-    let depth = u32::from(x.depth);
-    let layout = read_directory(device, entries)?;
-    if !layout {
-        return Ok(Err(Condition::DirectoryPages));
+    let root = check_root::<D, K>(device)?.ok_or(Condition::RootPage)?;
+    let entries = read_directory(device)?.ok_or(Condition::DirectoryPages)?;
+    let depth = u32::from(root.depth);
+    if !unused_zero(&entries, depth) {
+        return Err(CheckFault::Broken(Condition::DirectoryPages));
     }
-    if !unused_zero(entries, depth) {
-        return Ok(Err(Condition::DirectoryPages));
+    if !in_range(&entries, depth, root.limit) {
+        return Err(CheckFault::Broken(Condition::UsedEntries));
     }
-    if !in_range(entries, depth, x.limit) {
-        return Ok(Err(Condition::UsedEntries));
-    }
-    Ok(Ok(x))
+    Ok(Layout { root, entries })
 }
 
 /// Tests the other three conditions, where the first three hold: the numbers of page 0, or the lowest condition that is broken.
 fn check_buckets<D: GroupDevice, K: KeyRule>(
     device: &mut D,
-    x: Root,
-    entries: &[u16; 256],
-) -> Result<Result<Root, Condition>, DeviceFault>
-    requires { x.depth ≤ 8 }
-    ensures { Seen (D.Device.meaning device.old) (λ n f. LaidOut K.KeyRule.rule n f x (at entries.now)) → Looks D.Device.agrees D.Device.meaning D.GroupDevice.grouped 256 device.old result device.new (λ n f c. Decided K.KeyRule.rule n f c) }
+    layout: &Layout,
+) -> Result<Root, CheckFault>
+    ensures { Seen (D.Device.meaning device.old) (λ n f. LaidOut K.KeyRule.rule n f layout.now.root (at layout.now.entries)) → Looks D.Device.agrees D.Device.meaning D.GroupDevice.grouped 256 device.old (decision result) device.new (λ n f c. Decided K.KeyRule.rule n f c) }
 {
-    let depth = u32::from(x.depth);
-    let mut depths = [0u8; 256];
-    let mut sizes = [0u16; 256];
-    let mut counts = [0u16; 256];
-    let gathered = read_buckets::<D, K>(
-        device,
-        entries,
-        depth,
-        &mut depths,
-        &mut sizes,
-        &mut counts,
-    )?;
-    let Some(placed) = gathered else {
-        return Ok(Err(Condition::BucketPages));
-    };
-    if !placed {
-        return Ok(Err(Condition::Placement));
+    let depth = layout.depth();
+    let used = layout.used();
+    let buckets = read_buckets::<D, K>(device, used, depth)?.ok_or(Condition::BucketPages)?;
+    let survey = Survey::new(depth, used, &buckets[..used.len()]).ok_or(Condition::Placement)?;
+    if !survey.entries_placed() {
+        return Err(CheckFault::Broken(Condition::Placement));
     }
-    if !survey::entries_placed(entries, &depths, depth) {
-        return Ok(Err(Condition::Placement));
+    if !survey.is_tree(layout.root) {
+        return Err(CheckFault::Broken(Condition::Tree));
     }
-    if !tree_right(x, &depths, &sizes, &counts) {
-        return Ok(Err(Condition::Tree));
-    }
-    Ok(Ok(x))
+    Ok(layout.root)
 }
 
 /// Whether the pages that a device shows are a well-formed image: the numbers of page 0, or the lowest condition that is broken.
 /// Each page is read at most once for each entry that names it, 261 reads in all at most.
-pub fn check_image<D: GroupDevice, K: KeyRule>(
-    device: &mut D,
-) -> Result<Result<Root, Condition>, DeviceFault>
-    ensures { Looks D.Device.agrees D.Device.meaning D.GroupDevice.grouped 261 device.old result device.new (λ n f c. Decided K.KeyRule.rule n f c) }
+pub fn check_image<D: GroupDevice, K: KeyRule>(device: &mut D) -> Result<Root, CheckFault>
+    ensures { Looks D.Device.agrees D.Device.meaning D.GroupDevice.grouped 261 device.old (decision result) device.new (λ n f c. Decided K.KeyRule.rule n f c) }
 {
     if device.page_count() < 6 {
-        return Ok(Err(Condition::RootPage));
+        return Err(CheckFault::Broken(Condition::RootPage));
     }
-    let mut entries = [0u16; 256];
-    let laid = check_layout::<D, K>(device, &mut entries)?;
-    match laid {
-        Ok(x) => check_buckets::<D, K>(device, x, &entries),
-        Err(broken) => Ok(Err(broken)),
-    }
+    let layout = check_layout::<D, K>(device)?;
+    check_buckets::<D, K>(device, &layout)
 }

@@ -3,18 +3,17 @@ ghost use Rattle.std.specs.Prelude.{◌≡◌, ◌%◌, ◌<◌};
 ghost use Rattle.pages.specs.Bytes.{entry_at, Directory, EntrySet};
 ghost use Rattle.pages.specs.Tells.{Tells};
 
+use device::Page;
+
 /// Whether a page is a directory page by layout.
 pub(crate) fn is_directory(page: &[u8]) -> bool
     ensures { Tells result (Directory page.now) }
 {
-    match layout::body_of(page) {
-        Some(body) => body.len() == 128,
-        None => false,
-    }
+    layout::body_of(page).is_some_and(|body| body.len() == 128)
 }
 
 /// Entry `k` of a directory page.
-pub(crate) fn entry_at(page: &[u8; 252], k: usize) -> u16
+pub(crate) fn entry_at(page: &Page, k: usize) -> u16
     requires { k < 64 }
     ensures { result ≡ entry_at page.now k }
 {
@@ -29,14 +28,14 @@ fn place(i: u8) -> usize
 }
 
 /// Entry `i` of the directory, from the directory page that has it, page `1 + i / 64`.
-pub fn entry_of(page: &[u8; 252], i: u8) -> u16
+pub fn entry_of(page: &Page, i: u8) -> u16
     ensures { result ≡ entry_at page.now (i % 64) }
 {
     entry_at(page, place(i))
 }
 
 /// Sets entry `i` of the directory, in the directory page that has it.
-pub fn set_entry(page: &mut [u8; 252], i: u8, value: u16)
+pub fn set_entry(page: &mut Page, i: u8, value: u16)
     ensures { EntrySet page.old page.new (i % 64) value }
 {
     let k = place(i);

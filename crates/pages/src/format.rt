@@ -5,10 +5,11 @@ ghost use Rattle.pages.specs.Formats.{empty_body};
 
 use crate::root::Root;
 use crate::{page, root};
+use device::Page;
 use keys::KeyRule;
 
 /// Page `i` of an empty store of at most `limit` buckets. Its six pages are 0 to 5.
-pub fn empty_store_page<K: KeyRule>(limit: u16, i: usize) -> [u8; 252]
+pub fn empty_store_page<K: KeyRule>(limit: u16, i: usize) -> Page
     ensures { result ≡ envelope (empty_body K.KeyRule.rule.kind limit i) }
 {
     match i {

@@ -4,6 +4,7 @@
 mod bucket;
 mod check;
 mod directory;
+mod fault;
 mod format;
 mod laws;
 mod page;
@@ -12,9 +13,10 @@ mod records;
 mod root;
 mod survey;
 
-pub use bucket::{add_record, appended, bucket_page, read_bucket, removed};
+pub use bucket::{BucketView, add_record, appended, bucket_page, read_bucket, removed};
 pub use check::check_image;
 pub use directory::{entry_of, set_entry};
+pub use fault::CheckFault;
 pub use format::empty_store_page;
 pub use laws::{first_bucket, images_stand, pages_stand};
 pub use reading::read_page;
@@ -35,11 +37,11 @@ mod tests {
             key: b"a",
             value: b"hi",
         };
-        let page = appended(0, &[], stored).ok_or("no room")?;
+        let page = appended(0, &[], stored).map_err(|_| "no room")?;
         assert_eq!(rt; page[2], 12);
         assert_eq!(rt; page[5], 11);
-        let (_, bytes) = read_bucket::<TextKeys>(&page).ok_or("no bucket")?;
-        let (place, found) = find::<TextKeys>(bytes, b"A").ok_or("not found")?;
+        let bucket = read_bucket::<TextKeys>(&page).ok_or("no bucket")?;
+        let (place, found) = find::<TextKeys>(bucket.records, b"A").ok_or("not found")?;
         assert_eq!(rt; place, 0);
         assert_eq!(rt; found.day, 3650);
         Ok(())

@@ -6,9 +6,10 @@ ghost use Rattle.pages.specs.Tells.{Tells};
 ghost use Rattle.pages.specs.Records.{record_bytes, records, viewed, fine, Fine, FoundAt};
 
 use keys::KeyRule;
+use tree::Class;
 
 /// A record in a page.
-#[derive(Clone, Copy)]
+#[derive(Clone, Copy, Debug, PartialEq, Eq)]
 pub struct Record<'a> {
     pub class: u8,
     pub day: u32,
@@ -54,11 +55,11 @@ fn has_record(len: usize, whole: usize, k: u8) -> bool
 fn is_fine<K: KeyRule>(stored: Record<'_>) -> bool
     ensures { result ≡ fine K.KeyRule.rule.valid (viewed stored.entry) }
 {
-    match tree::class_of(stored.class) {
-        Some(row) => stored.value.len() <= row.longest
+    match Class::try_from(stored.class) {
+        Ok(class) => stored.value.len() <= class.row().longest
             && stored.day <= 199_999
             && K::is_valid(stored.key),
-        None => false,
+        Err(_) => false,
     }
 }
 

@@ -4,8 +4,10 @@ ghost use Rattle.layout.specs.Envelope.{envelope};
 ghost use Rattle.pages.specs.Bytes.{root_body};
 ghost use Rattle.pages.specs.Images.{number_of};
 
+use device::Page;
+
 /// The numbers of page 0: the kind of keys, the directory's depth, how many buckets there may be and are, and how many records.
-#[derive(Clone, Copy)]
+#[derive(Clone, Copy, Debug, PartialEq, Eq)]
 pub struct Root {
     pub kind: u8,
     pub depth: u8,
@@ -15,7 +17,7 @@ pub struct Root {
 }
 
 /// The conditions of a well-formed image, in the order in which they are tested.
-#[derive(Clone, Copy)]
+#[derive(Clone, Copy, Debug, PartialEq, Eq)]
 pub enum Condition {
     /// Page 0 is by layout, and its numbers fit the key rule and the count of pages.
     RootPage,
@@ -51,9 +53,7 @@ impl Condition {
 pub fn read_root(page: &[u8]) -> Option<Root>
     ensures { MatchOption result ((x : Root) → page.now ≢ envelope (root_body x)) (λ x. page.now ≡ envelope (root_body x)) }
 {
-    let Some(body) = layout::body_of(page) else {
-        return None;
-    };
+    let body = layout::body_of(page)?;
     let [kind, depth, l1, l0, u1, u0, r3, r2, r1, r0] = body else {
         return None;
     };
@@ -70,7 +70,7 @@ pub fn read_root(page: &[u8]) -> Option<Root>
 }
 
 /// Page 0 with these numbers.
-pub fn root_page(root: Root) -> [u8; 252]
+pub fn root_page(root: Root) -> Page
     ensures { result ≡ envelope (root_body root) }
 {
     let [l1, l0] = root.limit.to_be_bytes();

@@ -1,86 +1,162 @@
-//! The tests of a check on what was gathered of each entry.
-ghost use Rattle.std.specs.Prelude.{◌≡◌, ℕ, ◌+◌, ◌*◌, ◌^◌, ◌<◌, ◌≤◌, List, length};
+//! The tests of a check on what was gathered of the used entries.
+ghost use Rattle.std.specs.Prelude.{◌≡◌, ℕ, ◌+◌, ◌-◌, ◌*◌, ◌^◌, ◌<◌, ◌≤◌, List, length, MatchOption};
 ghost use Rattle.tree.specs.Maps.{Rec};
 ghost use Rattle.pages.specs.Records.{records};
-ghost use Rattle.pages.specs.Surveys.{at, EntryPlaced, EntriesPlaced, PairFull, SiblingsFull, DepthUsed, counted, RecordsPlaced, NumberRight};
+ghost use Rattle.pages.specs.Surveys.{at, bucket_at, depth_at, bytes_at, count_at, Narrow, AllPlaced, EntryPlaced, EntriesPlaced, PairFull, SiblingFull, SiblingsFull, DepthUsed, counted, RecordsPlaced, NumberRight, TreeTested};
 ghost use Rattle.pages.specs.Tells.{Tells};
 
 use crate::records;
+use crate::root::Root;
 use keys::KeyRule;
 
-/// Whether the page of entry i has no more bits than the directory, and is named by the entries that begin with its prefix, and no others.
-fn entry_placed(entries: &[u16], depths: &[u8], depth: u32, i: usize) -> bool
-    requires deep { depth ≤ 8 }
-    requires entries { 2 ^ depth ≤ length entries.now }
-    requires depths { 2 ^ depth ≤ length depths.now }
-    requires within { i < 2 ^ depth }
-    ensures { Tells result (EntryPlaced (at entries.now) (at depths.now) depth i) }
-{
-    let bits = u32::from(depths[i]);
-    if bits > depth {
-        return false;
-    }
-    let shift = depth - bits;
-    let wide = 1usize << depth;
-    for j in 0..wide {
-        if (entries[j] == entries[i]) != (j >> shift == i >> shift) {
-            return false;
+/// What a check gathers of a bucket: its local depth, the bytes and the number of its records, and whether they stand behind the right entry.
+#[derive(Clone, Copy)]
+pub(crate) struct Bucket {
+    pub depth: u8,
+    pub bytes: u16,
+    pub count: u16,
+    pub placed: bool,
+}
+
+/// The used entries of a directory of `depth` bits, and what was gathered of the bucket that each names. No bucket has more bits than the directory.
+#[derive(Clone, Copy)]
+pub(crate) struct Survey<'a> {
+    depth: u32,
+    entries: &'a [u16],
+    buckets: &'a [Bucket],
+    ghost deep: { depth ≤ 8 },
+    ghost entries_wide: { length entries.now ≡ 2 ^ depth },
+    ghost buckets_wide: { length buckets.now ≡ 2 ^ depth },
+    ghost narrow: { Narrow buckets.now depth },
+}
+
+impl<'a> Survey<'a> {
+    /// The survey, where the records of each bucket stand behind the right entry, and no bucket has more bits than the directory.
+    pub fn new(depth: u32, entries: &'a [u16], buckets: &'a [Bucket]) -> Option<Survey<'a>>
+        requires deep { depth ≤ 8 }
+        requires entries { length entries.now ≡ 2 ^ depth }
+        requires buckets { length buckets.now ≡ 2 ^ depth }
+        ensures { MatchOption result (AllPlaced buckets.entry.now depth → ⊥) (λ s. AllPlaced buckets.entry.now depth × (s.depth ≡ depth) × (s.entries.now ≡ entries.entry.now) × (s.buckets.now ≡ buckets.entry.now)) }
+    {
+        for bucket in buckets {
+            if !bucket.placed || u32::from(bucket.depth) > depth {
+                return None;
+            }
         }
+        Some(Survey {
+            depth,
+            entries,
+            buckets,
+        })
     }
-    true
-}
 
-/// The same of all entries.
-pub(crate) fn entries_placed(entries: &[u16], depths: &[u8], depth: u32) -> bool
-    requires deep { depth ≤ 8 }
-    requires entries { 2 ^ depth ≤ length entries.now }
-    requires depths { 2 ^ depth ≤ length depths.now }
-    ensures { Tells result (EntriesPlaced (at entries.now) (at depths.now) depth) }
-{
-    let wide = 1usize << depth;
-    for i in 0..wide {
-        if !entry_placed(entries, depths, depth, i) {
-            return false;
+    /// Whether the page of entry i is named by the entries that begin with its prefix, and no others.
+    fn entry_placed(&self, i: usize) -> bool
+        requires { i < 2 ^ self.now.depth }
+        ensures { Tells result (EntryPlaced (at self.now.entries.now) (depth_at self.now.buckets.now) self.now.depth i) }
+    {
+        let page = self.entries[i];
+        let shift = self.depth - u32::from(self.buckets[i].depth);
+        self.entries.iter().enumerate().all(|(j, entry)| (*entry == page)
+            == (j >> shift == i >> shift))
+    }
+
+    /// The same of all entries.
+    pub fn entries_placed(&self) -> bool
+        ensures { Tells result (EntriesPlaced (at self.now.entries.now) (depth_at self.now.buckets.now) self.now.depth) }
+    {
+        (0..self.entries.len()).all(|i| self.entry_placed(i))
+    }
+
+    /// Whether two pages are no siblings, or would not fit together.
+    fn pair_full(&self, i: usize, j: usize) -> bool
+        requires first { i < 2 ^ self.now.depth }
+        requires second { j < 2 ^ self.now.depth }
+        ensures { Tells result (PairFull (depth_at self.now.buckets.now) (bytes_at self.now.buckets.now) self.now.depth i j) }
+    {
+        let a = self.buckets[i];
+        let b = self.buckets[j];
+        if a.depth != b.depth || a.depth == 0 {
+            return true;
         }
+        let shift = self.depth - u32::from(a.depth);
+        let p = i >> shift;
+        if j >> shift != p + 1 - 2 * (p % 2) {
+            return true;
+        }
+        u32::from(a.bytes) + u32::from(b.bytes) > 248
     }
-    true
-}
 
-/// Whether two pages are no siblings, or would not fit together.
-fn pair_full(depths: &[u8], sizes: &[u16], depth: u32, i: usize, j: usize) -> bool
-    requires deep { depth ≤ 8 }
-    requires depths { (i < length depths.now) × (j < length depths.now) }
-    requires sizes { (i < length sizes.now) × (j < length sizes.now) }
-    requires short { at depths.now i ≤ depth }
-    ensures { Tells result (PairFull (at depths.now) (at sizes.now) depth i j) }
-{
-    let bits = depths[i];
-    if depths[j] != bits || bits == 0 {
-        return true;
+    /// Whether the page of entry i would fit together with no sibling.
+    fn sibling_full(&self, i: usize) -> bool
+        requires { i < 2 ^ self.now.depth }
+        ensures { Tells result (SiblingFull (depth_at self.now.buckets.now) (bytes_at self.now.buckets.now) self.now.depth i) }
+    {
+        (0..self.buckets.len()).all(|j| self.pair_full(i, j))
     }
-    let shift = depth - u32::from(bits);
-    let p = i >> shift;
-    if j >> shift != p + 1 - 2 * (p % 2) {
-        return true;
-    }
-    u32::from(sizes[i]) + u32::from(sizes[j]) > 248
-}
 
-/// How many pages the entries name, where they are the buckets of a tree.
-pub(crate) fn count_pages(depths: &[u8], depth: u32) -> u32
-    requires deep { depth ≤ 8 }
-    requires depths { 2 ^ depth ≤ length depths.now }
-    requires short { (i : ℕ) → i < 2 ^ depth → at depths.now i ≤ depth }
-    ensures { NumberRight (at depths.now) depth result }
-{
-    let wide = 1usize << depth;
-    let mut i: usize = 0;
-    let mut n: u32 = 0;
-    while i < wide {
-        i += 1usize << (depth - u32::from(depths[i]));
-        n += 1;
+    /// The same of all entries.
+    fn siblings_full(&self) -> bool
+        ensures { Tells result (SiblingsFull (depth_at self.now.buckets.now) (bytes_at self.now.buckets.now) self.now.depth) }
+    {
+        (0..self.buckets.len()).all(|i| self.sibling_full(i))
     }
-    n
+
+    /// How many entries name the bucket of entry i.
+    fn width(&self, i: usize) -> usize
+        requires { i < 2 ^ self.now.depth }
+        ensures { result ≡ 2 ^ (self.now.depth - depth_at self.now.buckets.now i) }
+    {
+        1usize << (self.depth - u32::from(self.buckets[i].depth))
+    }
+
+    /// How many pages the entries name, where they are the buckets of a tree.
+    fn count_pages(&self) -> u32
+        ensures { NumberRight (depth_at self.now.buckets.now) self.now.depth result }
+    {
+        let mut i: usize = 0;
+        let mut n: u32 = 0;
+        while i < self.buckets.len() {
+            i += self.width(i);
+            n += 1;
+        }
+        n
+    }
+
+    /// How many records the pages have.
+    fn count_records(&self) -> u32
+        ensures { result ≡ counted (depth_at self.now.buckets.now) (count_at self.now.buckets.now) self.now.depth (2 ^ self.now.depth) }
+    {
+        let mut n: u32 = 0;
+        for (i, bucket) in self.buckets.iter().enumerate() {
+            if i % self.width(i) == 0 {
+                n += u32::from(bucket.count);
+            }
+        }
+        n
+    }
+
+    /// Whether some page has all the directory's bits.
+    fn depth_used(&self) -> bool
+        ensures { Tells result (DepthUsed (depth_at self.now.buckets.now) self.now.depth) }
+    {
+        self.depth == 0
+            || self
+                .buckets
+                .iter()
+                .any(|bucket| u32::from(bucket.depth) == self.depth)
+    }
+
+    /// Whether the buckets are a tree's, and these numbers of page 0 are right.
+    pub fn is_tree(&self, root: Root) -> bool
+        requires { root.depth ≡ self.now.depth }
+        ensures { (n : ℕ) × NumberRight (depth_at self.now.buckets.now) root.depth n × Tells result (TreeTested (depth_at self.now.buckets.now) (bytes_at self.now.buckets.now) (count_at self.now.buckets.now) root n) }
+    {
+        u32::from(root.used) == self.count_pages()
+            && root.records == self.count_records()
+            && self.depth_used()
+            && self.siblings_full()
+    }
 }
 
 /// Whether the hashes of records begin with a prefix, and no two keys are the same.
@@ -97,62 +173,6 @@ pub(crate) fn records_placed<K: KeyRule>(bytes: &[u8], depth: u32, prefix: u32) 
             return false;
         }
         left = after;
-    }
-    true
-}
-
-/// How many records the pages have.
-pub(crate) fn count_all(depths: &[u8], counts: &[u16], depth: u32) -> u32
-    requires deep { depth ≤ 8 }
-    requires depths { 2 ^ depth ≤ length depths.now }
-    requires counts { 2 ^ depth ≤ length counts.now }
-    requires short { (i : ℕ) → i < 2 ^ depth → at depths.now i ≤ depth }
-    ensures { result ≡ counted (at depths.now) (at counts.now) depth (2 ^ depth) }
-{
-    let wide = 1usize << depth;
-    let mut n: u32 = 0;
-    for i in 0..wide {
-        let run = 1usize << (depth - u32::from(depths[i]));
-        if i % run == 0 {
-            n += u32::from(counts[i]);
-        }
-    }
-    n
-}
-
-/// Whether some page has all the directory's bits.
-pub(crate) fn depth_used(depths: &[u8], depth: u32) -> bool
-    requires deep { depth ≤ 8 }
-    requires depths { 2 ^ depth ≤ length depths.now }
-    ensures { Tells result (DepthUsed (at depths.now) depth) }
-{
-    if depth == 0 {
-        return true;
-    }
-    let wide = 1usize << depth;
-    for i in 0..wide {
-        if u32::from(depths[i]) == depth {
-            return true;
-        }
-    }
-    false
-}
-
-/// Whether no two sibling pages would fit together.
-pub(crate) fn siblings_full(depths: &[u8], sizes: &[u16], depth: u32) -> bool
-    requires deep { depth ≤ 8 }
-    requires depths { 2 ^ depth ≤ length depths.now }
-    requires sizes { 2 ^ depth ≤ length sizes.now }
-    requires short { (i : ℕ) → i < 2 ^ depth → at depths.now i ≤ depth }
-    ensures { Tells result (SiblingsFull (at depths.now) (at sizes.now) depth) }
-{
-    let wide = 1usize << depth;
-    for i in 0..wide {
-        for j in 0..wide {
-            if !pair_full(depths, sizes, depth, i, j) {
-                return false;
-            }
-        }
     }
     true
 }

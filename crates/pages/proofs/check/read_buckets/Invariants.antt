@@ -1,15 +1,13 @@
-use Rattle.std.proofs.Common.{◌≡◌, ℕ, ◌^◌, ◌<◌, length, MatchBool}
+use Rattle.std.proofs.Common.{◌≡◌, ℕ, ◌^◌, ◌<◌, length}
 use Rattle.pages.specs.Images.{shows}
 use Rattle.pages.specs.Surveys.{at}
-use Rattle.pages.specs.Gathered.{Gathered, AllStand}
+use Rattle.pages.specs.Gathered.{AllPaged}
 use Rattle.pages.specs.Reads.{Ready}
 use Rattle.pages.proofs.Looking.{Held}
 use Rattle.pages.proofs.check.read_buckets.Given as goal
 
 abbrev pub invariant-loop-i : goal.invariant-loop-i
 invariant-loop-i g l =
-    (length l.depths ≡ 256) × (length l.sizes ≡ 256) × (length l.counts ≡ 256)
+    (length l.buckets ≡ 256)
     × (((i : ℕ) → i < 2 ^ l.depth → at l.entries i < (g.D.Device.meaning l.initial.device).count) → Ready g.D.Device.agrees g.D.Device.meaning g.D.GroupDevice.grouped l.initial.device
-    → Held g.D.Device.agrees g.D.Device.meaning g.D.GroupDevice.grouped l.i l.initial.device l.device
-    (λ n f. Gathered g.K.KeyRule.rule (λ k. shows (f (at l.entries k))) (at l.depths) (at l.sizes) (at l.counts) l.i
-    × MatchBool l.placed (AllStand g.K.KeyRule.rule (λ k. shows (f (at l.entries k))) (at l.depths) l.depth l.i) (AllStand g.K.KeyRule.rule (λ k. shows (f (at l.entries k))) (at l.depths) l.depth l.i → ⊥)))
+    → Held g.D.Device.agrees g.D.Device.meaning g.D.GroupDevice.grouped l.i l.initial.device l.device (λ n f. AllPaged g.K.KeyRule.rule (λ k. shows (f (at l.entries k))) l.depth l.buckets l.i))

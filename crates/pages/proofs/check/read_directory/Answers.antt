@@ -1,4 +1,5 @@
 use Rattle.std.proofs.Common.{◌≡◌, ◌+◌, ◌<◌, subst, arith}
+use Rattle.std.proofs.lemmas.Option.{MatchOption-at_some, MatchOption-at_none}
 use Rattle.std.proofs.lemmas.Result.{err_from_is_err_and}
 use Rattle.pages.specs.Checks.{DirectoriesRead}
 use Rattle.pages.proofs.Looking.{Held, kept_none, held_on, stopped_on}
@@ -9,34 +10,34 @@ pub loop-j-init : goal.loop-j-init
 loop-j-init g c = λ h a.
     (kept_none g.D.Device.agrees g.D.Device.meaning g.D.GroupDevice.grouped 0 c.args.device.now a, λ n f w. ((λ m lt. absurd (omega (arith, lt))), λ i lt. absurd (omega (arith, lt))))
 
-pub returns-in_err-shown : goal.returns-in_err-shown
-returns-in_err-shown g c =
+pub returns-in_err-page : goal.returns-in_err-page
+returns-in_err-page g c =
     let p = err_from_is_err_and c.from_residual.result c.from_residual.ensures.1 in
     rw (p.1, p.2) (λ h a.
     let i = c.loop-j.invariant h a in
     let lt : 1 + c.loop-j.j < (g.D.Device.meaning c.loop-j.device).count = omega (arith, h, i.0.same.count) in
-    stopped_on g.D.Device.agrees g.D.Device.meaning g.D.GroupDevice.grouped c.loop-j.j 1 4 c.args.device.now c.loop-j.device c.read_page.new.device _ (omega arith) i (c.in_err-shown.ensures.reads lt i.0.ready))
+    stopped_on g.D.Device.agrees g.D.Device.meaning g.D.GroupDevice.grouped c.loop-j.j 1 4 c.args.device.now c.loop-j.device c.read_page.new.device _ (omega arith) i (c.in_err-page.ensures lt i.0.ready))
 
-pub returns-then-not-shown : goal.returns-then-not-shown
-returns-then-not-shown g c = λ h a.
+pub returns-in_default : goal.returns-in_default
+returns-in_default g c = λ h a.
     let i = c.loop-j.invariant h a in
     let lt : 1 + c.loop-j.j < (g.D.Device.meaning c.loop-j.device).count = omega (arith, h, i.0.same.count) in
-    held_on g.D.Device.agrees g.D.Device.meaning g.D.GroupDevice.grouped c.loop-j.j 1 4 c.args.device.now c.loop-j.device c.read_page.new.device (omega arith) i (c.in_ok-shown.ensures.reads lt i.0.ready)
-    (λ n f x y. directories_spoiled f c.loop-j.j (omega arith) (y.not_shown c.if-not-shown.true))
+    held_on g.D.Device.agrees g.D.Device.meaning g.D.GroupDevice.grouped c.loop-j.j 1 4 c.args.device.now c.loop-j.device c.read_page.new.device (omega arith) i (c.in_ok-page.ensures lt i.0.ready)
+    (λ n f x y. directories_spoiled f c.loop-j.j (omega arith) (MatchOption-at_none _ _ c.in_default.is y))
 
 pub returns-then-not-is_directory : goal.returns-then-not-is_directory
 returns-then-not-is_directory g c = λ h a.
     let i = c.loop-j.invariant h a in
     let lt : 1 + c.loop-j.j < (g.D.Device.meaning c.loop-j.device).count = omega (arith, h, i.0.same.count) in
-    held_on g.D.Device.agrees g.D.Device.meaning g.D.GroupDevice.grouped c.loop-j.j 1 4 c.args.device.now c.loop-j.device c.read_page.new.device (omega arith) i (c.in_ok-shown.ensures.reads lt i.0.ready)
-    (λ n f x y. directories_not f c.loop-j.j c.read_page.new.buf (omega arith) (y.shown c.if-not-shown.false) c.if-not-is_directory.ensures)
+    held_on g.D.Device.agrees g.D.Device.meaning g.D.GroupDevice.grouped c.loop-j.j 1 4 c.args.device.now c.loop-j.device c.read_page.new.device (omega arith) i (c.in_ok-page.ensures lt i.0.ready)
+    (λ n f x y. directories_not f c.loop-j.j c.in-Some.page (omega arith) (MatchOption-at_some _ _ c.in-Some.page c.in-Some.is y) c.if-not-is_directory.ensures)
 
 pub loop-j-preserved : goal.loop-j-preserved
 loop-j-preserved g c = λ h a.
     let i = c.loop-j.invariant h a in
     let lt : 1 + c.loop-j.j < (g.D.Device.meaning c.loop-j.device).count = omega (arith, h, i.0.same.count) in
-    held_on g.D.Device.agrees g.D.Device.meaning g.D.GroupDevice.grouped c.loop-j.j 1 (c.loop-j.j + 1) c.args.device.now c.loop-j.device c.read_page.new.device (omega arith) i (c.in_ok-shown.ensures.reads lt i.0.ready)
-    (λ n f x y. directories_more f c.loop-j.j c.read_page.new.buf _ _ (y.shown c.if-not-shown.false) c.if-not-is_directory.ensures c.copy_entries.ensures x)
+    held_on g.D.Device.agrees g.D.Device.meaning g.D.GroupDevice.grouped c.loop-j.j 1 (c.loop-j.j + 1) c.args.device.now c.loop-j.device c.read_page.new.device (omega arith) i (c.in_ok-page.ensures lt i.0.ready)
+    (λ n f x y. directories_more f c.loop-j.j c.in-Some.page _ _ (MatchOption-at_some _ _ c.in-Some.page c.in-Some.is y) c.if-not-is_directory.ensures c.copy_entries.ensures x)
 
 pub returns : goal.returns
 returns g c = λ h a.

@@ -1,0 +1,47 @@
+-- A part of an array, tested entry by entry.
+use Rattle.std.proofs.Common.{◌≡◌, ℕ, ◌+◌, ◌-◌, ◌^◌, ◌<◌, ◌≤◌, Bool, true, false, List, length, take, drop, MatchBool, sym, ap, ◌∙◌, subst, arith, length-drop, length-take-le, take_all, get_or-take, get_or-drop}
+use Rattle.std.specs.List.{AllWithin, HoldsAt, range_with_len}
+use Rattle.std.proofs.lemmas.List.FromFn.{get_or-range_with_len, length-range_with_len}
+use Rattle.pages.specs.Surveys.{at}
+
+-- the first n
+pub first_all : (P : ℕ → Type 0) (r : Bool) (xs ys : List ℕ) (n : ℕ) → ys ≡ take n xs → n ≤ length xs → MatchBool r (AllWithin P ys 0 (length ys)) ((k : ℕ) × (k < length ys) × HoldsAt (λ x. P x → ⊥) ys k)
+    → MatchBool r ((i : ℕ) → i < n → P (at xs i)) (((i : ℕ) → i < n → P (at xs i)) → ⊥)
+first_all P r xs ys n e h m = go r (subst (λ l. MatchBool r (AllWithin P l 0 (length l)) ((k : ℕ) × (k < length l) × HoldsAt (λ x. P x → ⊥) l k)) e m)
+  where
+    go : (r : Bool) → MatchBool r (AllWithin P (take n xs) 0 (length (take n xs))) ((k : ℕ) × (k < length (take n xs)) × HoldsAt (λ x. P x → ⊥) (take n xs) k)
+        → MatchBool r ((i : ℕ) → i < n → P (at xs i)) (((i : ℕ) → i < n → P (at xs i)) → ⊥)
+    go true a = λ i l. subst P (get_or-take n xs i 0 l) (a i 0 (omega arith) (omega (arith, length-take-le n xs h)))
+    go false a = λ q.
+        let l : a.0 < n = omega (arith, a.1, length-take-le n xs h) in
+        a.2 0 (subst P (sym (get_or-take n xs a.0 0 l)) (q a.0 l))
+
+-- the first of an array, as the array has them
+pub first_same : (es us : List ℕ) (d w : ℕ) → w ≡ d → us ≡ take (2 ^ d) es → (i : ℕ) → i < 2 ^ w → at us i ≡ at es i
+first_same es us d w e u i h = ap (λ l. at l i) u ∙ get_or-take (2 ^ d) es i 0 (subst (λ v. i < 2 ^ v) e h)
+
+-- those from n on, of m
+pub last_all : (P : ℕ → Type 0) (r : Bool) (xs ys : List ℕ) (n m : ℕ) → length xs ≡ m → ys ≡ take (m - n) (drop n xs) → n ≤ m
+    → MatchBool r (AllWithin P ys 0 (length ys)) ((k : ℕ) × (k < length ys) × HoldsAt (λ x. P x → ⊥) ys k)
+    → MatchBool r ((i : ℕ) → n ≤ i → i < m → P (at xs i)) (((i : ℕ) → n ≤ i → i < m → P (at xs i)) → ⊥)
+last_all P r xs ys n m z e h t =
+    go r (subst (λ l. MatchBool r (AllWithin P l 0 (length l)) ((k : ℕ) × (k < length l) × HoldsAt (λ x. P x → ⊥) l k)) (e ∙ take_all (m - n) (drop n xs) (omega (arith, length-drop n xs))) t)
+  where
+    go : (r : Bool) → MatchBool r (AllWithin P (drop n xs) 0 (length (drop n xs))) ((k : ℕ) × (k < length (drop n xs)) × HoldsAt (λ x. P x → ⊥) (drop n xs) k)
+        → MatchBool r ((i : ℕ) → n ≤ i → i < m → P (at xs i)) (((i : ℕ) → n ≤ i → i < m → P (at xs i)) → ⊥)
+    go true a = λ i l lt.
+        let q : n + (i - n) ≡ i = omega arith in
+        subst (λ k. P (at xs k)) q (subst P (get_or-drop n xs (i - n) 0) (a (i - n) 0 (omega arith) (omega (arith, length-drop n xs))))
+    go false a = λ q. a.2 0 (subst P (sym (get_or-drop n xs a.0 0)) (q (n + a.0) (omega arith) (omega (arith, a.1, length-drop n xs))))
+
+-- every number below n
+pub range_all : (P : ℕ → Type 0) (r : Bool) (m n : ℕ) → m ≡ n → MatchBool r (AllWithin P (range_with_len 0 m) 0 (length (range_with_len 0 m))) ((k : ℕ) × (k < length (range_with_len 0 m)) × HoldsAt (λ x. P x → ⊥) (range_with_len 0 m) k)
+    → MatchBool r ((i : ℕ) → i < n → P i) (((i : ℕ) → i < n → P i) → ⊥)
+range_all P true m n e a = λ i l.
+    let h : i < m = omega arith in
+    let z : 0 + i ≡ i = omega arith in
+    subst P (get_or-range_with_len 0 m i 0 h ∙ z) (a i 0 (omega arith) (omega (arith, length-range_with_len 0 m)))
+range_all P false m n e a = λ q.
+    let h : a.0 < m = omega (arith, a.1, length-range_with_len 0 m) in
+    let z : 0 + a.0 ≡ a.0 = omega arith in
+    a.2 0 (subst P (sym (get_or-range_with_len 0 m a.0 0 h ∙ z)) (q a.0 (omega arith)))
