@@ -1,5 +1,5 @@
 // The steps of a sync, on the device below.
-ghost use Rattle.std.specs.Prelude.{◌≡◌, ℕ, ◌+◌, ◌<◌, ◌≤◌, true, false, List, [], ◌++◌, length, if◌then◌else◌};
+ghost use Rattle.std.specs.Prelude.{◌≡◌, ℕ, ◌+◌, ◌<◌, ◌≤◌, true, false, List, [], ◌++◌, length};
 ghost use Rattle.device.specs.Meaning.{State};
 ghost use Rattle.journal.specs.Header.{header};
 ghost use Rattle.journal.specs.Sending.{Makes, placed, settling, heading, step1, step2, step3, step4};
@@ -8,47 +8,35 @@ ghost use Rattle.journal.specs.Steps.{LayReady, Finished, CommitReady, Committed
 
 use crate::entries::Entry;
 use crate::header::header_of;
-use crate::places::{HEADER, body_page, home_page};
+use crate::places::{Area, HEADER};
 use device::{Device, DeviceFault};
 use layout::empty_page;
 
-// Where an entry goes: its home page, or body j.
-fn place(home: bool, j: usize, e: &Entry) -> usize
-    requires { j < 64 }
-    ensures { result ≡ (if home then 65 + e.now.page else 1 + j) }
-{
-    if home {
-        home_page(usize::from(e.page))
-    } else {
-        body_page(j)
-    }
-}
-
-// Writes the entries to their home pages, or as bodies.
-fn write_entries<D: Device>(below: &mut D, entries: &[Entry], home: bool) -> Result<(), DeviceFault>
+// Writes the entries to their pages.
+fn write_entries<D: Device>(below: &mut D, entries: &[Entry], area: Area) -> Result<(), DeviceFault>
     requires { length entries.now ≤ 64 }
     ensures agrees { D.Device.agrees below.old → D.Device.agrees below.new }
-    ensures makes { D.Device.agrees below.old → (D.Device.meaning below.old).runs ≡ true → Makes D.Device.meaning (placed home 0 entries.now) result below.old below.new }
-    ensures wrote { D.Device.agrees below.old → Ready home entries.now (D.Device.meaning below.old) → WroteAll home entries.now (D.Device.meaning below.old) result (D.Device.meaning below.new) }
+    ensures makes { D.Device.agrees below.old → (D.Device.meaning below.old).runs ≡ true → Makes D.Device.meaning (placed area 0 entries.now) result below.old below.new }
+    ensures wrote { D.Device.agrees below.old → Ready area entries.now (D.Device.meaning below.old) → WroteAll area entries.now (D.Device.meaning below.old) result (D.Device.meaning below.new) }
 {
     for (j, e) in entries.iter().enumerate() {
-        below.write(place(home, j, e), &e.bytes)?;
+        below.write(area.page(j, e), &e.bytes)?;
     }
     Ok(())
 }
 
-// The entries at their home pages, or as bodies, and a sync.
+// The entries at their pages, and a sync.
 fn settle_entries<D: Device>(
     below: &mut D,
     entries: &[Entry],
-    home: bool,
+    area: Area,
 ) -> Result<(), DeviceFault>
     requires { length entries.now ≤ 64 }
     ensures agrees { D.Device.agrees below.old → D.Device.agrees below.new }
-    ensures makes { D.Device.agrees below.old → (D.Device.meaning below.old).runs ≡ true → Makes D.Device.meaning (settling home entries.now) result below.old below.new }
-    ensures settled { D.Device.agrees below.old → Ready home entries.now (D.Device.meaning below.old) → SettledAll D.Device.agrees D.Device.meaning home entries.now below.old result below.new }
+    ensures makes { D.Device.agrees below.old → (D.Device.meaning below.old).runs ≡ true → Makes D.Device.meaning (settling area entries.now) result below.old below.new }
+    ensures settled { D.Device.agrees below.old → Ready area entries.now (D.Device.meaning below.old) → SettledAll D.Device.agrees D.Device.meaning area entries.now below.old result below.new }
 {
-    write_entries(below, entries, home)?;
+    write_entries(below, entries, area)?;
     below.sync()
 }
 
@@ -78,7 +66,7 @@ pub(crate) fn finish<D: Device>(below: &mut D, entries: &[Entry]) -> Result<(), 
     ensures makes { D.Device.agrees below.old → (D.Device.meaning below.old).runs ≡ true → Makes D.Device.meaning (step3 entries.now ++ step4) result below.old below.new }
     ensures finished { D.Device.agrees below.old → (T : State → List ℕ) (base : ℕ → State) → LayReady T entries.now base (D.Device.meaning below.old) → Finished T entries.now base (D.Device.meaning below.old) result (D.Device.meaning below.new) }
 {
-    settle_entries(below, entries, true)?;
+    settle_entries(below, entries, Area::Home)?;
     clear(below)
 }
 
@@ -89,7 +77,7 @@ pub(crate) fn commit<D: Device>(below: &mut D, entries: &[Entry]) -> Result<(), 
     ensures makes { D.Device.agrees below.old → (D.Device.meaning below.old).runs ≡ true → Makes D.Device.meaning (step1 entries.now ++ (step2 entries.now ++ (step3 entries.now ++ step4))) result below.old below.new }
     ensures committed { D.Device.agrees below.old → (T : State → List ℕ) (base : ℕ → State) → CommitReady T entries.now base (D.Device.meaning below.old) → Committed T entries.now base (D.Device.meaning below.old) result (D.Device.meaning below.new) }
 {
-    settle_entries(below, entries, false)?;
+    settle_entries(below, entries, Area::Body)?;
     set_header(below, &header_of(entries))?;
     finish(below, entries)
 }
