@@ -3,7 +3,7 @@
 #![tactic(auto)]
 
 ghost use Rattle.std.specs.Prelude.{◌≡◌};
-ghost use Rattle.device.specs.Calls.{reads, writes, syncs, restarts, discards};
+ghost use Rattle.device.specs.Calls.{reads, writes, syncs, restarts, discards, shown_page};
 ghost use Rattle.device.specs.Clauses.{Does, GroupDoes};
 ghost use Rattle.device.specs.Gate.{Gate};
 ghost use Rattle.device.specs.Meaning.{Meaning, Sound, Grouped};
@@ -11,6 +11,9 @@ ghost use Rattle.device.specs.Numbers.{number};
 
 /// The bytes of a page.
 pub const PAGE_SIZE: usize = 252;
+
+/// A page.
+pub type Page = [u8; PAGE_SIZE];
 
 /// Why a call of a device is refused.
 #[derive(Clone, Copy, Debug, PartialEq, Eq)]
@@ -57,6 +60,17 @@ pub fn gate(count: usize, page: usize, len: usize, runs: bool) -> Result<(), Dev
         return Err(DeviceFault::PowerLost);
     }
     Ok(())
+}
+
+/// The page that a read brought, by its answer and what its buffer then holds; none where the page is spoiled, which is no refusal here.
+pub fn shown_page(answer: Result<(), DeviceFault>, page: Page) -> Result<Option<Page>, DeviceFault>
+    ensures { result ≡ shown_page answer page }
+{
+    match answer {
+        Ok(()) => Ok(Some(page)),
+        Err(DeviceFault::PageSpoiled) => Ok(None),
+        Err(fault) => Err(fault),
+    }
 }
 
 /// A page device: a fixed count of pages, which a loss of power may leave in one of several states.

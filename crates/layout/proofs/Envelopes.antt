@@ -1,10 +1,11 @@
 -- Pages by layout: what the reader takes apart is what was put together, and in one way alone.
-use Rattle.std.proofs.Common.{◌≡◌, ℕ, suc, ◌+◌, ◌-◌, ◌*◌, ◌/◌, ◌%◌, ◌<◌, ◌≤◌, Bool, true, false, eqb, List, [], ◌∷◌, ◌++◌, length, get_or, take, drop, set, replicate, sym, refl, ap, ◌∙◌, subst, arith, length-append, length-drop, take-append-drop}
+use Rattle.std.proofs.Common.{◌≡◌, ℕ, suc, ◌+◌, ◌-◌, ◌*◌, ◌/◌, ◌%◌, ◌<◌, ◌≤◌, true, eqb, List, [], ◌∷◌, ◌++◌, length, get_or, take, drop, set, replicate, sym, refl, ap, ◌∙◌, subst, arith, length-append, length-drop, take-append-drop, Result, Ok, Err}
 use lib.ListN.{length-replicate}
 use borrow.Rule.Slice.PartMut.{put_mid}
-use Rattle.std.proofs.lemmas.List.{take_all, take_at, drop_at, append_assoc, length-take-le, ext_get_or, get_or-replicate, drop-replicate}
+use Rattle.std.proofs.lemmas.List.{take_all, take_at, drop_at, append_assoc, length-take-le, drop-replicate}
 use Rattle.std.proofs.lemmas.Bool.{eqb-true, eq-eqb, and_from, and_parts, false≢true}
 use Rattle.layout.specs.Envelope.{envelope, Enveloped, body_part, same, Extended}
+use Rattle.layout.specs.declared.NoRoom.{NoRoom}
 
 pub split_eq : (p q r s : List ℕ) → length p ≡ length r → p ++ q ≡ r ++ s → (p ≡ r) × (q ≡ s)
 split_eq p q r s l e = (
@@ -52,30 +53,21 @@ enveloped p n lp h0 hn h2 short z =
       is = three p (omega arith) ∙ sym (λ i. sym h0 i ∷ e1 i ∷ e2 i ∷ ((ap (λ (l : List ℕ). take n (drop 3 p) ++ l) e3 ∙ take-append-drop n (drop 3 p)) i));
     }
 
--- zeros, tested one by one
-pub zeros : (p : List ℕ) → ((k : ℕ) → k < length p → get_or p k 0 ≡ 0) → p ≡ replicate (length p) 0
-zeros p h = ext_get_or 0 p (replicate (length p) 0) (sym (length-replicate (length p) 0)) (λ i l. h i l ∙ sym (get_or-replicate (length p) i 0 0 l))
-
-pub not_zeros : (p : List ℕ) (k : ℕ) → k < length p → (get_or p k 0 ≡ 0 → ⊥) → p ≡ replicate (length p) 0 → ⊥
-not_zeros p k l ne e = ne (ap (λ (q : List ℕ). get_or q k 0) e ∙ get_or-replicate (length p) k 0 0 l)
-
--- the reader's own parts
-pub body_read : (p : List ℕ) (n : ℕ) → length p ≡ 252 → get_or p 0 0 ≡ 1 → n ≡ get_or p 1 0 * 256 + get_or p 2 0 → get_or p 2 0 < 256 → n ≤ 249 → (rest tail : List ℕ)
-    → rest ≡ take (length p - 3) (drop 3 p) → tail ≡ take (length rest - n) (drop n rest) → tail ≡ replicate (length tail) 0 → Enveloped p (take (n - 0) rest)
-body_read p n lp h0 hn h2 short rest tail re te z =
+-- the reader's own parts: what follows the three bytes, cut at the length that they say
+pub body_read : (p : List ℕ) (n : ℕ) → length p ≡ 252 → get_or p 0 0 ≡ 1 → n ≡ get_or p 1 0 * 256 + get_or p 2 0 → get_or p 2 0 < 256 → n ≤ 249 → (rest body tail : List ℕ)
+    → rest ≡ take (length p - 3) (drop 3 p) → body ≡ take n rest → tail ≡ drop n rest → tail ≡ replicate (length tail) 0 → Enveloped p body
+body_read p n lp h0 hn h2 short rest body tail re be te z =
     let whole : rest ≡ drop 3 p = re ∙ take_all (length p - 3) (drop 3 p) (omega (arith, length-drop 3 p)) in
-    let t : tail ≡ drop n (drop 3 p) = te ∙ take_all (length rest - n) (drop n rest) (omega (arith, length-drop n rest)) ∙ ap (drop n) whole in
-    let k : n - 0 ≡ n = omega arith in
-    let v : Enveloped p (take n (drop 3 p)) = enveloped p n lp h0 hn h2 short (sym t ∙ z ∙ ap (λ (l : List ℕ). replicate (length l) 0) t) in
-    record { fits = subst (λ (l : List ℕ). length l ≤ 249) (sym (λ i. take (k i) (whole i))) v.fits; is = v.is ∙ ap envelope (sym (λ i. take (k i) (whole i))) }
+    let b : body ≡ take n (drop 3 p) = be ∙ ap (take n) whole in
+    let t : tail ≡ drop n (drop 3 p) = te ∙ ap (drop n) whole in
+    subst (Enveloped p) (sym b) (enveloped p n lp h0 hn h2 short (sym t ∙ z ∙ ap (λ (l : List ℕ). replicate (length l) 0) t))
 
 pub body_not : (p : List ℕ) (n : ℕ) → n ≡ get_or p 1 0 * 256 + get_or p 2 0 → (rest tail : List ℕ)
-    → rest ≡ take (length p - 3) (drop 3 p) → tail ≡ take (length rest - n) (drop n rest) → (tail ≡ replicate (length tail) 0 → ⊥) → (body : List ℕ) → Enveloped p body → ⊥
+    → rest ≡ take (length p - 3) (drop 3 p) → tail ≡ drop n rest → (tail ≡ replicate (length tail) 0 → ⊥) → (body : List ℕ) → Enveloped p body → ⊥
 body_not p n hn rest tail re te un body v =
     let s = envelope_starts p body v in
     let whole : rest ≡ drop 3 p = re ∙ take_all (length p - 3) (drop 3 p) (omega (arith, length-drop 3 p)) in
-    let t : tail ≡ drop n (drop 3 p) = te ∙ take_all (length rest - n) (drop n rest) (omega (arith, length-drop n rest)) ∙ ap (drop n) whole in
-    let back : tail ≡ replicate (249 - length body) 0 = t ∙ ap (drop n) s.3 ∙ drop_at body (replicate (249 - length body) 0) n (omega (arith, s.2)) in
+    let back : tail ≡ replicate (249 - length body) 0 = te ∙ ap (drop n) whole ∙ ap (drop n) s.3 ∙ drop_at body (replicate (249 - length body) 0) n (omega (arith, s.2)) in
     un (back ∙ ap (λ k. replicate k 0) (sym (ap length back ∙ length-replicate (249 - length body) 0)))
 
 -- a page with more in its body
@@ -108,13 +100,13 @@ extended p more body n hn v room =
     }
 
 -- the same as the code has it
-pub extended_by : (p more body : List ℕ) (n k : ℕ) (m : List ℕ) → n ≡ get_or p 1 0 * 256 + get_or p 2 0 → k ≡ length more → m ≡ more → n + length more ≤ 249 → Enveloped p body
-    → Enveloped (set (set (put_mid (3 + n) k p m) 1 ((n + length more) / 256)) 2 ((n + length more) % 256)) (body ++ more)
-extended_by p more body n k m hn hk hm room v =
+pub extended_by : (p more body : List ℕ) (n k : ℕ) (m : List ℕ) (hi lo : ℕ) → n ≡ get_or p 1 0 * 256 + get_or p 2 0 → k ≡ length more → m ≡ more → hi ≡ (n + length more) / 256
+    → lo ≡ (n + length more) % 256 → n + length more ≤ 249 → Enveloped p body → Enveloped (set (set (put_mid (3 + n) k p m) 1 hi) 2 lo) (body ++ more)
+extended_by p more body n k m hi lo hn hk hm hh hl room v =
     let x = extended p more body n hn v room in
     record {
       fits = x.fits;
-      is = (λ i. set (set (put_mid (3 + n) (hk i) p (hm i)) 1 ((n + length more) / 256)) 2 ((n + length more) % 256)) ∙ x.is;
+      is = (λ i. set (set (put_mid (3 + n) (hk i) p (hm i)) 1 (hh i)) 2 (hl i)) ∙ x.is;
     }
 
 pub envelope_length : (b : List ℕ) → length (envelope b) ≡ 252 → length b ≤ 249
@@ -138,6 +130,6 @@ same_self [] = refl
 same_self (x ∷ xs) = and_from (eqb x x) (same xs xs) (eq-eqb x x refl) (same_self xs)
 
 -- what was added, where there was room
-pub extend_fits : (page body more : List ℕ) (r : Bool) → Extended page body more r → length body + length more ≤ 249 → Enveloped page (body ++ more)
-extend_fits page body more true x room = x
-extend_fits page body more false x room = absurd (omega (arith, x.0))
+pub extend_fits : (page body more : List ℕ) (r : Result (Unit {0}) NoRoom) → Extended page body more r → length body + length more ≤ 249 → Enveloped page (body ++ more)
+extend_fits page body more (Ok _) x room = x
+extend_fits page body more (Err _) x room = absurd (omega (arith, x.0))

@@ -1,5 +1,6 @@
 -- The layout that every page has. Numbers are big-endian.
-use Rattle.std.specs.Prelude.{◌≡◌, ℕ, ◌+◌, ◌-◌, ◌*◌, ◌/◌, ◌%◌, ◌<◌, ◌≤◌, Bool, true, false, ◌&&◌, List, [], ◌∷◌, ◌++◌, length, take, drop, replicate, MatchBool, ◌==◌, slice_index}
+use Rattle.std.specs.Prelude.{◌≡◌, ℕ, ◌+◌, ◌-◌, ◌*◌, ◌/◌, ◌%◌, ◌<◌, ◌≤◌, Bool, true, false, ◌&&◌, List, [], ◌∷◌, ◌++◌, length, take, drop, replicate, Result, MatchResult, ◌==◌, slice_index}
+use Rattle.layout.specs.declared.NoRoom.{NoRoom}
 
 -- a number in two bytes
 abbrev pub be2 : ℕ → List ℕ
@@ -26,5 +27,5 @@ same (x ∷ xs) [] = false
 same (x ∷ xs) (y ∷ ys) = x == y && same xs ys
 
 -- bytes were added to the body of a page, or had no room there
-abbrev pub Extended : List ℕ → List ℕ → List ℕ → Bool → Type 0
-Extended page body more r = MatchBool r (Enveloped page (body ++ more)) ((249 < length body + length more) × (page ≡ envelope body))
+abbrev pub Extended : List ℕ → List ℕ → List ℕ → Result (Unit {0}) NoRoom → Type 0
+Extended page body more r = MatchResult r (λ _. Enveloped page (body ++ more)) (λ _. (249 < length body + length more) × (page ≡ envelope body))

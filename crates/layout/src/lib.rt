@@ -4,28 +4,27 @@
 ghost use Rattle.std.specs.Prelude.{◌≡◌, ℕ, ◌+◌, ◌*◌, List, [], ◌∷◌, length, replicate, MatchBool, MatchOption, ◌≢◌};
 ghost use Rattle.layout.specs.Envelope.{envelope, Enveloped, Extended};
 
-use device::PAGE_SIZE;
+use device::{PAGE_SIZE, Page};
 
 // The most bytes that a body has.
 const BODY_SIZE: usize = 249;
+
+/// The body of a page has no room for so many bytes more.
+#[derive(Clone, Copy, Debug, PartialEq, Eq)]
+pub struct NoRoom;
 
 // Whether all bytes are 0.
 fn all_zero(bytes: &[u8]) -> bool
     ensures { MatchBool result (bytes.now ≡ replicate (length bytes.now) 0) (bytes.now ≢ replicate (length bytes.now) 0) }
 {
-    for b in bytes {
-        if *b != 0 {
-            return false;
-        }
-    }
-    true
+    bytes.iter().all(|b| *b == 0)
 }
 
 // The length that two bytes of a page say.
 fn length_of(hi: u8, lo: u8) -> usize
     ensures { result ≡ hi * 256 + lo }
 {
-    usize::from(hi) * 256 + usize::from(lo)
+    usize::from(u16::from_be_bytes([hi, lo]))
 }
 
 /// The body of a page, where the page is by layout.
@@ -39,39 +38,31 @@ pub fn body_of(page: &[u8]) -> Option<&[u8]>
     if *version != 1 || page.len() != PAGE_SIZE || n > BODY_SIZE {
         return None;
     }
-    let body = &rest[0..n];
-    let tail = &rest[n..];
+    let (body, tail) = rest.split_at(n);
     if all_zero(tail) { Some(body) } else { None }
 }
 
-// The version byte, and zeros.
-fn blank_page() -> [u8; 252]
-    ensures { result ≡ 1 ∷ replicate 251 0 }
+/// A page with no body.
+pub fn empty_page() -> Page
+    ensures { result ≡ envelope [] }
 {
-    let mut page = [0; 252];
+    let mut page = [0; PAGE_SIZE];
     page[0] = 1;
     page
 }
 
-/// A page with no body.
-pub fn empty_page() -> [u8; 252]
-    ensures { result ≡ envelope [] }
-{
-    blank_page()
-}
-
-/// Adds bytes to a page's body; false, and no change, where they have no room.
-pub fn extend(page: &mut [u8; 252], more: &[u8]) -> bool
+/// Adds bytes to a page's body, or changes nothing where they have no room.
+pub fn extend(page: &mut Page, more: &[u8]) -> Result<(), NoRoom>
     ensures { (body : List ℕ) → Enveloped page.old body → Extended page.new body more.now result }
 {
     let n = length_of(page[1], page[2]);
     if n > BODY_SIZE || more.len() > BODY_SIZE - n {
-        return false;
+        return Err(NoRoom);
     }
     let total = n + more.len();
-    let part = &mut page[3 + n..3 + total];
-    part.copy_from_slice(more);
-    page[1] = (total / 256) as u8;
-    page[2] = (total % 256) as u8;
-    true
+    page[3 + n..3 + total].copy_from_slice(more);
+    let [hi, lo] = (total as u16).to_be_bytes();
+    page[1] = hi;
+    page[2] = lo;
+    Ok(())
 }

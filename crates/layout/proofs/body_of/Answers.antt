@@ -12,7 +12,8 @@ returns-then-version-ne1 c = λ body v.
 
 pub returns-then-all_zero : goal.returns-then-all_zero
 returns-then-all_zero c =
-    body_read c.args.page.now c.length_of-n.result (omega arith) (omega arith) c.length_of-n.ensures (omega (arith, c.type_inv.page 2)) (omega arith) _ _ refl refl c.if-all_zero.ensures
+    body_read c.args.page.now c.length_of-n.result (omega arith) (omega arith) c.length_of-n.ensures (omega (arith, c.type_inv.page 2)) (omega arith) _ _ _ refl c.split_at.ensures.front
+    c.split_at.ensures.back c.if-all_zero.ensures
 
 pub returns-else-all_zero : goal.returns-else-all_zero
-returns-else-all_zero c = body_not c.args.page.now c.length_of-n.result c.length_of-n.ensures _ _ refl refl c.if-all_zero.ensures
+returns-else-all_zero c = body_not c.args.page.now c.length_of-n.result c.length_of-n.ensures _ _ refl c.split_at.ensures.back c.if-all_zero.ensures

@@ -1,4 +1,4 @@
-use Rattle.std.proofs.Common.{arith}
+use Rattle.std.proofs.Common.{arith, rules}
 use Rattle.layout.proofs.Envelopes.{envelope_starts, extended_by}
 use Rattle.layout.proofs.extend.Goals as goal
 use Rattle.layout.proofs.extend.Goals.{then-n-gt-BODY_SIZE-via-then-n-gt-BODY_SIZE, then-n-gt-BODY_SIZE-via-else-n-gt-BODY_SIZE+then-more-n}
@@ -12,5 +12,5 @@ returns-then-n-gt-BODY_SIZE c = λ body v.
 
 pub returns : goal.returns
 returns c = λ body v.
-    extended_by c.args.page.now c.args.more.now body c.length_of-n.result _ c.copy_from_slice.new.self
-    c.length_of-n.ensures (omega arith) c.copy_from_slice.ensures.after (omega (arith, c.if-n-gt-BODY_SIZE.false, c.if-more-n.false)) v
+    extended_by c.args.page.now c.args.more.now body c.length_of-n.result _ c.copy_from_slice.new.self _ _
+    c.length_of-n.ensures (omega arith) c.copy_from_slice.ensures.after (search rules) (search rules) (omega (arith, c.if-n-gt-BODY_SIZE.false, c.if-more-n.false)) v
