@@ -1,5 +1,5 @@
 -- The steps of a sync on the device below, by what it means before and after.
-use Rattle.std.specs.Prelude.{◌≡◌, ℕ, ◌-◌, ◌<◌, true, ◌⊎◌, List, [], MatchResult, slice_index_or}
+use Rattle.std.specs.Prelude.{◌≡◌, ℕ, ◌-◌, ◌<◌, ◌⊎◌, List, [], MatchResult, slice_index_or}
 use Rattle.device.specs.Meaning.{State, bytes, spoiled, Meaning, Alike}
 use Rattle.device.specs.Numbers.{number}
 use Rattle.device.specs.Promises.{Down, Ran}
