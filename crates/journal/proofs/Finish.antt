@@ -5,6 +5,7 @@ use Rattle.device.specs.Meaning.{State, bytes, Meaning, Sound, Alike, has}
 use Rattle.device.specs.Promises.{GainsAt, WriteDone, SyncDone}
 use Rattle.device.specs.Calls.{Answer}
 use Rattle.journal.specs.declared.entries.Entry.{Entry}
+use Rattle.journal.specs.declared.places.Area.TheVariants.{Body, Home}
 use Rattle.journal.specs.Waiting.{blank, pages}
 use Rattle.journal.specs.Header.{header}
 use Rattle.journal.specs.Standing.{above, whole, over}
@@ -49,7 +50,7 @@ module _ (T : State → List ℕ) (es : List Entry) (base : ℕ → State) (m : 
   few : length (pages es) ≤ 64
   few = let a = lr.ready.room in let b = pages_length es in omega arith
 
-  lay_within : (n : Meaning) → n.count ≡ m.count → OnlySpots true es (length es) m n → Within n (Laying T (pages es) (bodies es) base)
+  lay_within : (n : Meaning) → n.count ≡ m.count → OnlySpots Home es (length es) m n → Within n (Laying T (pages es) (bodies es) base)
   lay_within n c g p s h x = ⊎_elim (λ y. lr.laying p s (omega arith) y)
       (λ y. let lt = y.1 in let eq = y.2 in record {
         head = λ z. absurd (omega arith);
@@ -58,7 +59,7 @@ module _ (T : State → List ℕ) (es : List Entry) (base : ℕ → State) (m : 
       })
       (g p s (omega arith) x)
 
-  homes_shown : Sound m → (n : Meaning) → Wrote true es (length es) m n → (i : ℕ) → 65 + i < m.count → n.shown (65 + i) ≡ fresh (pages es) (bodies es) base i
+  homes_shown : Sound m → (n : Meaning) → Wrote Home es (length es) m n → (i : ℕ) → 65 + i < m.count → n.shown (65 + i) ≡ fresh (pages es) (bodies es) base i
   homes_shown s n w i h = ⊎_elim
       (λ y. let r = find_page es 1 (bodies es) i (base i) y in
       let v : 65 + i ≡ 65 + (get_or es r.0 blank).page = let u = r.2 in omega arith in
@@ -69,14 +70,14 @@ module _ (T : State → List ℕ) (es : List Entry) (base : ℕ → State) (m : 
       (cases_Bool (has i (pages es)))
 
   -- power was lost in step 3
-  pub lay_lost : (n : Meaning) → WroteLost true es m n → CutTo T (λ e. Alike (above m.count) e (fresh (pages es) (bodies es) base)) m n
+  pub lay_lost : (n : Meaning) → WroteLost Home es m n → CutTo T (λ e. Alike (above m.count) e (fresh (pages es) (bodies es) base)) m n
   lay_lost n d = record {
     left = d.left;
     ends = λ e x. fewer m n e _ d.left.count
         (laying_ends T (pages es) (bodies es) base n few (whole_bodies es (pages es) 1) (lay_within n d.left.count d.gains) e x);
   }
 
-  module _ (sm : Sound m) (n : Meaning) (w : Wrote true es (length es) m n) (sn : Sound n) (o : Meaning) (d : SyncDone n o) where
+  module _ (sm : Sound m) (n : Meaning) (w : Wrote Home es (length es) m n) (sn : Sound n) (o : Meaning) (d : SyncDone n o) where
     clearing : Within o (Clearing T (pages es) (bodies es) base)
     clearing = homes_synced T (pages es) (bodies es) base n o sn d (lay_within n w.count w.gains)
         (λ i h. homes_shown sm n w i (let c = w.count in omega arith))
@@ -115,7 +116,7 @@ module _ (T : State → List ℕ) (es : List Entry) (base : ℕ → State) (m : 
   few_pages : length (pages es) ≤ 64
   few_pages = let a = few_entries in let b = pages_length es in omega arith
 
-  pub bodies_ready : Ready false es m
+  pub bodies_ready : Ready Body es m
   bodies_ready = record {
     running = cr.homes.running;
     room = cr.homes.room;
@@ -124,7 +125,7 @@ module _ (T : State → List ℕ) (es : List Entry) (base : ℕ → State) (m : 
     apart = λ i j h l e. omega arith;
   }
 
-  bodies_within : (n : Meaning) → n.count ≡ m.count → OnlySpots false es (length es) m n → Within n (Bodies T (pages es) (bodies es) base)
+  bodies_within : (n : Meaning) → n.count ≡ m.count → OnlySpots Body es (length es) m n → Within n (Bodies T (pages es) (bodies es) base)
   bodies_within n c g p s h x = ⊎_elim (λ y. cr.idle p s (omega arith) y)
       (λ y. let lt = y.1 in let eq = y.2 in let a = few_entries in record {
         head = λ z. absurd (omega arith);
@@ -134,14 +135,14 @@ module _ (T : State → List ℕ) (es : List Entry) (base : ℕ → State) (m : 
       (g p s (omega arith) x)
 
   -- power was lost in step 1
-  pub bodies_lost : (n : Meaning) → WroteLost false es m n → CutTo T Either m n
+  pub bodies_lost : (n : Meaning) → WroteLost Body es m n → CutTo T Either m n
   bodies_lost n d = record {
     left = d.left;
     ends = λ e x. inl (fewer m n e _ d.left.count
         (bodies_ends T (pages es) (bodies es) base n (bodies_within n d.left.count d.gains) e x));
   }
 
-  module _ (n : Meaning) (w : Wrote false es (length es) m n) (sn : Sound n) (o : Meaning) (d : SyncDone n o) where
+  module _ (n : Meaning) (w : Wrote Body es (length es) m n) (sn : Sound n) (o : Meaning) (d : SyncDone n o) where
     naming : Within o (Naming T (pages es) (bodies es) base)
     naming = bodies_synced T (pages es) (bodies es) base n o sn d (bodies_within n w.count w.gains)
         (λ j h. w.here j (let a = pages_length es in omega arith) ∙ sym (at_body es j))
@@ -195,7 +196,7 @@ module _ (T : State → List ℕ) (es : List Entry) (base : ℕ → State) (m : 
 
 -- the same over the device, where the calls were made
 module _ {D : Type 0} (agrees : D → Type 0) (meaning : D → Meaning) (sound : (d : D) → agrees d → Sound (meaning d)) (T : State → List ℕ) (es : List Entry) (base : ℕ → State) (a : D) where
-  pub laid_and_cleared : (lr : LayReady T es base (meaning a)) → agrees a → (d : D) → agrees d → Wrote true es (length es) (meaning a) (meaning d) → (o : D) → SyncDone (meaning d) (meaning o) → (r : Answer) (e : D)
+  pub laid_and_cleared : (lr : LayReady T es base (meaning a)) → agrees a → (d : D) → agrees d → Wrote Home es (length es) (meaning a) (meaning d) → (o : D) → SyncDone (meaning d) (meaning o) → (r : Answer) (e : D)
       → HeadSet agrees meaning (header []) o r e → Finished T es base (meaning a) r (meaning e)
   laid_and_cleared lr ha d hd w o s (Ok _) e (q, hq, wd, x) =
       finished T es base (meaning a) lr (sound a ha) (meaning d) w (sound d hd) (meaning o) s (meaning q) wd (sound q hq) (meaning e) x

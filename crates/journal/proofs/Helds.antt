@@ -1,18 +1,14 @@
 -- What waits for a page.
-use Rattle.std.proofs.Common.{◌≡◌, ℕ, zero, suc, ◌<◌, true, false, eqb, List, [], ◌∷◌, length, get_or, sym, refl, ◌∙◌, ⊎_elim, arith}
-use Rattle.std.proofs.lemmas.Bool.{eq-eqb, ne_eqb, cases_Bool, cond-true, cond-false}
+use Rattle.std.proofs.Common.{◌≡◌, ℕ, zero, suc, ◌<◌, true, false, cond, eqb, List, [], ◌∷◌, length, get_or, Some, None, sym, refl, ap, ◌∙◌, ⊎_elim, arith}
+use Rattle.std.specs.List.{find, position_or_len}
+use Rattle.std.specs.Option.{option_map, unwrap_or, is_some}
+use Rattle.std.proofs.lemmas.Bool.{eq-eqb, eqb-true, eqb-false, ne_eqb, cases_Bool, cases_lt, cond-true, cond-false, lt-ltb}
+use Rattle.std.proofs.lemmas.Bool.Decides.{nat_tests}
+use Rattle.std.proofs.lemmas.List.Sums.{fails_before_first}
+use Rattle.std.proofs.lemmas.List.Quantifiers.{position-Some}
 use Rattle.device.specs.Meaning.{State, bytes, has}
 use Rattle.journal.specs.declared.entries.Entry.{Entry}
-use Rattle.journal.specs.Waiting.{blank, pages, held}
-
-pub held_first : (es : List Entry) (p k : ℕ) (d : State) → k < length es → (get_or es k blank).page ≡ p → ((j : ℕ) → j < k → (get_or es j blank).page ≡ p → ⊥) → held es p d ≡ bytes (get_or es k blank).bytes
-held_first [] p k d h e n = absurd (omega arith)
-held_first (x ∷ es) p zero d h e n = cond-true _ _ _ (eq-eqb x.page p e)
-held_first (x ∷ es) p (suc k) d h e n = cond-false _ _ _ (ne_eqb x.page p (n 0 (omega arith))) ∙ held_first es p k d (omega arith) e (λ j l. n (suc j) (omega arith))
-
-pub held_none : (es : List Entry) (p : ℕ) (d : State) → ((j : ℕ) → j < length es → (get_or es j blank).page ≡ p → ⊥) → held es p d ≡ d
-held_none [] p d n = refl
-held_none (x ∷ es) p d n = cond-false _ _ _ (ne_eqb x.page p (n 0 (omega arith))) ∙ held_none es p d (λ j l. n (suc j) (omega arith))
+use Rattle.journal.specs.Waiting.{blank, pages, held, place, look_up}
 
 pub has_later : (es : List Entry) (p j : ℕ) → j < length es → (get_or es j blank).page ≡ p → has p (pages es) ≡ true
 has_later [] p j h e = absurd (omega arith)
@@ -22,3 +18,49 @@ has_later (d ∷ es) p (suc j) h e = ⊎_elim (λ y. cond-true _ _ _ y) (λ n. c
 pub absent : (es : List Entry) (p : ℕ) → ((j : ℕ) → j < length es → (get_or es j blank).page ≡ p → ⊥) → has p (pages es) ≡ false
 absent [] p n = refl
 absent (x ∷ es) p n = cond-false _ _ _ (ne_eqb p x.page (λ e. n 0 (omega arith) (sym e))) ∙ absent es p (λ j l. n (suc j) (omega arith))
+
+-- page p waits, with these bytes
+pub record Held (es : List Entry) (p : ℕ) (buf : List ℕ) : Type 0 where
+  pub waits : has p (pages es) ≡ true
+  pub shows : (d : State) → held es p d ≡ bytes buf
+
+-- page p does not wait
+pub record NotHeld (es : List Entry) (p : ℕ) : Type 0 where
+  pub absent : has p (pages es) ≡ false
+  pub home : (d : State) → held es p d ≡ d
+
+-- k is the place of page p
+pub record At (es : List Entry) (p k : ℕ) : Type 0 where
+  pub within : k < length es
+  pub before : (j : ℕ) → j < k → (get_or es j blank).page ≡ p → ⊥
+  pub here : (get_or es k blank).page ≡ p
+
+held_first : (es : List Entry) (p : ℕ) (d : State) → held es p d ≡ unwrap_or (option_map bytes (look_up es p)) d
+held_first [] p d = refl
+held_first (x ∷ es) p d = let r = held_first es p d in
+    elim (eqb x.page p) as (λ b. cond b (bytes x.bytes) (held es p d) ≡ unwrap_or (option_map bytes (option_map (λ e. e.bytes) (cond b (Some x) (find (λ e. eqb e.page p) es)))) d) [ true ↦ refl | false ↦ r ]
+
+turned : (a b : ℕ) → eqb a b ≡ eqb b a
+turned a b = grind (arith, nat_tests)
+
+has_first : (es : List Entry) (p : ℕ) → has p (pages es) ≡ is_some (look_up es p)
+has_first [] p = refl
+has_first (x ∷ es) p = let r = has_first es p in
+    ap (λ b. cond b true (has p (pages es))) (turned p x.page)
+    ∙ elim (eqb x.page p) as (λ b. cond b true (has p (pages es)) ≡ is_some (option_map (λ e. e.bytes) (cond b (Some x) (find (λ e. eqb e.page p) es)))) [ true ↦ refl | false ↦ r ]
+
+-- a page that is found waits with those bytes, and one that is not does not wait
+pub found : (es : List Entry) (p : ℕ) (b : List ℕ) → Some b ≡ look_up es p → Held es p b
+found es p b e = record { waits = has_first es p ∙ ap is_some (sym e); shows = λ d. held_first es p d ∙ ap (λ o. unwrap_or (option_map bytes o) d) (sym e) }
+
+pub not_found : (es : List Entry) (p : ℕ) → None ≡ look_up es p → NotHeld es p
+not_found es p e = record { absent = has_first es p ∙ ap is_some (sym e); home = λ d. held_first es p d ∙ ap (λ o. unwrap_or (option_map bytes o) d) (sym e) }
+
+pub placed : (es : List Entry) (p k : ℕ) → Some k ≡ place es p → At es p k
+placed es p k e = let q = position-Some (λ e. eqb e.page p) es k blank (sym e) in record { within = q.0; before = λ j h. eqb-false _ _ (q.2 j h); here = eqb-true _ _ q.1 }
+
+pub not_placed : (es : List Entry) (p : ℕ) → None ≡ place es p → (j : ℕ) → j < length es → (get_or es j blank).page ≡ p → ⊥
+not_placed es p e j h = ⊎_elim
+    (λ l. let z : place es p ≡ Some (position_or_len (λ (e : Entry). eqb e.page p) es) = cond-true _ _ _ (lt-ltb _ _ l) in absurd (cc))
+    (λ l. eqb-false _ _ (fails_before_first (λ (e : Entry). eqb e.page p) es j blank (omega arith)))
+    (cases_lt (position_or_len (λ (e : Entry). eqb e.page p) es) (length es))

@@ -15,7 +15,7 @@ use Rattle.device.proofs.Whens.{when_true, when_false, either_way}
 use Rattle.journal.specs.declared.journal.Journal.{Journal}
 use Rattle.journal.specs.declared.entries.Entry.{Entry}
 use Rattle.journal.specs.declared.entries.Pending.{Pending}
-use Rattle.journal.specs.Waiting.{waiting, pages, Held, NotHeld, PutDone, PutFull, Heard, Revived}
+use Rattle.journal.specs.Waiting.{waiting, pages, PutDone, PutFull, Put, Heard, Revived}
 use Rattle.journal.specs.Header.{targets}
 use Rattle.journal.specs.Standing.{above, home, journal, journal_group}
 use Rattle.journal.specs.Sending.{Makes, step1, step2, step3, step4}
@@ -25,6 +25,7 @@ use Rattle.journal.specs.Steps.{CommitReady, Committed}
 use Rattle.journal.specs.Recovery.{Recovered}
 use Rattle.journal.proofs.Fitting.{fit_page}
 use Rattle.journal.proofs.Going.{Went, when_yes, when_no}
+use Rattle.journal.proofs.Helds.{Held, NotHeld}
 use Rattle.journal.proofs.Groups.{sound_group, went_discard, went_held, went_put, went_full}
 use Rattle.journal.proofs.Reading.{read_home, read_count, agrees_down}
 use Rattle.journal.proofs.Restored.{went_restart, recovered_count}
@@ -154,19 +155,23 @@ module _ {X : Type 0} (agrees : X → Type 0) (meaning : X → Meaning) (sound :
         λ h. (when_true (has p (pages (waiting j.pending))) _ _ x.waits refl, λ _. refl),
       )
 
-      pub put_write : PutDone (waiting j.pending) p buf (waiting v) → Told (writes p buf) j (Ok tt) with_v
+      put_write : PutDone (waiting j.pending) p buf (waiting v) → Told (writes p buf) j (Ok tt) with_v
       put_write x = (
         doing (writes p buf) j with_v (Ok tt) (λ h. (h.0, refl, went_put (reader (meaning j.below)) j.up (waiting j.pending) (meaning j.below) (sound j.below h.0) h.1 p buf t (record { within = w; size = len }) (waiting v) x)),
         unmoved (writes p buf) j with_v (Ok tt) refl refl,
         λ h. (refl, λ _. refl),
       )
 
-      pub full_write : PutFull (waiting j.pending) p (waiting v) → Told (writes p buf) j (Err TooManyWaiting) with_v
+      full_write : PutFull (waiting j.pending) p (waiting v) → Told (writes p buf) j (Err TooManyWaiting) with_v
       full_write x = (
         doing (writes p buf) j with_v (Err TooManyWaiting) (λ h. (h.0, refl, went_full (reader (meaning j.below)) j.up (waiting j.pending) (meaning j.below) (sound j.below h.0) h.1 p buf t (record { within = w; size = len }) (waiting v) x)),
         unmoved (writes p buf) j with_v (Err TooManyWaiting) refl refl,
         λ h. (refl, λ _. refl),
       )
+
+      pub kept_write : (r : Answer) → Put (waiting j.pending) p buf r (waiting v) → Told (writes p buf) j r with_v
+      kept_write (Ok _) x = put_write x
+      kept_write (Err e) x = subst (λ (f : DeviceFault). Told (writes p buf) j (Err f) with_v) (sym x.0) (full_write x.1)
 
     pub discarded : waiting v ≡ [] → Told discards j (Ok tt) with_v
     discarded e = (
@@ -192,9 +197,9 @@ module _ {X : Type 0} (agrees : X → Type 0) (meaning : X → Meaning) (sound :
     moved : (P : Answer → X → Type 0) → P r x → P a j'.below
     moved P h = subst (λ (y : X). P a y) (sym below) (subst (λ (s : Answer). P s x) (sym same) h)
 
-    pub home_read : (p : ℕ) (buf buf₁ buf' : List ℕ) → j.up ≡ true → p < above (meaning j.below).count → length buf ≡ 252 → NotHeld (waiting j.pending) p buf buf₁
-        → Heard j.up j.pending r j'.up j'.pending → Does agrees meaning (reads (65 + p) buf₁ buf') j.below r x → Told (reads p buf buf') j a j'
-    home_read p buf buf₁ buf' t w len away heard d = (
+    pub home_read : (p : ℕ) (buf buf' : List ℕ) → j.up ≡ true → p < above (meaning j.below).count → length buf ≡ 252 → NotHeld (waiting j.pending) p
+        → Heard j.up j.pending r j'.up j'.pending → Does agrees meaning (reads (65 + p) buf buf') j.below r x → Told (reads p buf buf') j a j'
+    home_read p buf buf' t w len away heard d = (
       doing (reads p buf buf') j j' a (λ h. let y = does h.0 in (
         y.agrees,
         read_count m (meaning j'.below) (65 + p) buf buf' a y.means,
@@ -209,7 +214,7 @@ module _ {X : Type 0} (agrees : X → Type 0) (meaning : X → Meaning) (sound :
         m = meaning j.below
 
         does : Does agrees meaning (reads (65 + p) buf buf') j.below a j'.below
-        does = moved (λ s y. Does agrees meaning (reads (65 + p) buf buf') j.below s y) (subst (λ (l : List ℕ). Does agrees meaning (reads (65 + p) l buf') j.below r x) away.left d)
+        does = moved (λ s y. Does agrees meaning (reads (65 + p) buf buf') j.below s y) d
 
     pub synced : (v : Pending) → j.up ≡ true → 0 < length (waiting j.pending) → waiting v ≡ [] → Heard j.up v r j'.up j'.pending
         → (agrees j.below → agrees x)

@@ -1,20 +1,22 @@
 -- The header and the bodies are read into memory.
-use Rattle.std.proofs.Common.{◌≡◌, ℕ, zero, suc, ◌+◌, ◌<◌, ◌≤◌, Bool, true, false, ◌≢◌, List, [], ◌∷◌, length, get_or, set, Ok, Err, Result, sym, refl, ap, ◌∙◌, subst, inr, ⊎_elim, arith}
-use Rattle.std.proofs.lemmas.List.{get_or-set_same, get_or-set_other, get_or-take}
+use Rattle.std.proofs.Common.{◌≡◌, ℕ, zero, suc, ◌+◌, ◌<◌, ◌≤◌, false, ◌≢◌, List, [], ◌∷◌, ◌++◌, length, get_or, take, Some, None, Option, Ok, Err, Result, sym, refl, ap, ◌∙◌, subst, inr, ⊎_elim, arith}
+use Rattle.std.proofs.lemmas.List.{get_or_push, get_or_append_left, length_push, length-take-le, take_more, take_all}
 use Rattle.std.proofs.lemmas.Bool.{cases_eq, and_left, and_right}
 use Rattle.device.specs.declared.DeviceFault.{DeviceFault}
 use Rattle.device.specs.declared.DeviceFault.TheVariants.{NoSuchPage, BufferSize, PowerLost, PageSpoiled, TooManyWaiting}
 use Rattle.device.specs.Meaning.{State, bytes, spoiled, Meaning}
 use Rattle.device.specs.Promises.{Same, Lost, Read}
-use Rattle.device.specs.Calls.{Answer, lost}
+use Rattle.device.specs.Calls.{Answer, shown_page, lost}
 use Rattle.device.proofs.Meanings.{same_self}
 use Rattle.journal.specs.declared.entries.Entry.{Entry}
 use Rattle.journal.specs.declared.entries.Pending.{Pending}
-use Rattle.journal.specs.Waiting.{waiting, blank}
+use Rattle.journal.specs.Waiting.{waiting, pages, blank}
 use Rattle.journal.specs.Standing.{is_bytes, whole}
 use Rattle.journal.specs.Sending.{bare}
-use Rattle.journal.specs.Recovery.{unspoil, Awake, Looked, LoadedTo, LoadedAll, Loaded, Found}
+use Rattle.journal.specs.Recovery.{Awake, Looked, LoadedTo, Loaded, Found}
+use Rattle.journal.specs.Sound.{pages_length}
 use Rattle.journal.proofs.Crash.{whole_same}
+use Rattle.journal.proofs.Parsing.{pages_push}
 
 same_trans : (m n o : Meaning) → Same m n → Same n o → Same m o
 same_trans m n o a b = let c = a.count in record {
@@ -36,15 +38,15 @@ pub awake_same : (m n : Meaning) → Same m n → Awake m → Awake n
 awake_same m n s a = record { running = s.runs ∙ a.running; room = let c = s.count in let r = a.room in omega arith }
 
 -- a read of one page
-pub look_lost : (r : Answer) → lost r ≡ lost (bare (unspoil r))
-look_lost (Ok _) = refl
-look_lost (Err NoSuchPage) = refl
-look_lost (Err BufferSize) = refl
-look_lost (Err PowerLost) = refl
-look_lost (Err PageSpoiled) = refl
-look_lost (Err TooManyWaiting) = refl
+pub look_lost : (r : Answer) (buf : List ℕ) → lost r ≡ lost (bare (shown_page r buf))
+look_lost (Ok _) buf = refl
+look_lost (Err NoSuchPage) buf = refl
+look_lost (Err BufferSize) buf = refl
+look_lost (Err PowerLost) buf = refl
+look_lost (Err PageSpoiled) buf = refl
+look_lost (Err TooManyWaiting) buf = refl
 
-pub looked : (m n : Meaning) (p : ℕ) (buf buf' : List ℕ) (r : Answer) → length buf ≡ 252 → p < m.count → Read m p buf r buf' n → Looked m p (unspoil r) buf' n
+pub looked : (m n : Meaning) (p : ℕ) (buf buf' : List ℕ) (r : Answer) → length buf ≡ 252 → p < m.count → Read m p buf r buf' n → Looked m p (shown_page r buf') n
 looked m n p buf buf' (Ok _) len h d = (d.value, d.same)
 looked m n p buf buf' (Err NoSuchPage) len h d = let a = d.1.past in absurd (omega arith)
 looked m n p buf buf' (Err BufferSize) len h d = absurd (d.1.size len)
@@ -59,30 +61,43 @@ whole_broken (t ∷ ts) k zero f h e = and_left (is_bytes (f k)) (whole ts (suc 
 whole_broken (t ∷ ts) k (suc j) f h e = and_right (is_bytes (f k)) (whole ts (suc k) f) (whole_broken ts (suc k) j f (omega arith) (ap f (let z : suc k + j ≡ k + suc j = omega arith in z) ∙ e))
 
 module _ (ts : List ℕ) (m : Meaning) (few : length ts ≤ 64) (a : Awake m) where
-  pub loaded_none : (es : List Entry) → LoadedTo ts 0 es m m
-  loaded_none es = record { same = same_self m; page = λ i h. absurd (omega arith); body = λ i h. absurd (omega arith); size = λ i h. absurd (omega arith) }
+  pub loaded_none : LoadedTo ts 0 [] m m
+  loaded_none = record { same = same_self m; named = refl; body = λ i h. absurd (omega arith); size = λ i h. absurd (omega arith) }
 
   module _ (n : Meaning) (j : ℕ) (es : List Entry) (l : LoadedTo ts j es m n) (lt : j < length ts) (o : Meaning) where
-    pub body_within : 1 + j < n.count
+    body_within : 1 + j < n.count
     body_within = let c = l.same.count in let r = a.room in omega arith
+
+    -- the look at body j, which stands on page p
+    pub body_looked : (p : ℕ) (r : Result (Option (List ℕ)) DeviceFault) → p ≡ 1 + j → (p < n.count → Looked n p r o) → Looked n (1 + j) r o
+    body_looked p r e f = subst (λ (q : ℕ). Looked n q r o) e (f (let b = body_within in omega arith))
 
     shown_at : n.shown (1 + j) ≡ m.shown (1 + j)
     shown_at = l.same.shown (1 + j) (let r = a.room in omega arith)
 
-    pub loaded_more : (e : Entry) → length es ≡ 64 → e.page ≡ get_or ts j 0 → length e.bytes ≡ 252 → (n.shown (1 + j) ≡ bytes e.bytes) × Same n o → LoadedTo ts (j + 1) (set es j e) m o
-    loaded_more e len pg size b = record {
+    abbrev entry : List ℕ → Entry
+    entry bs = record { page = get_or ts j 0; bytes = bs }
+
+    pub so_many : length es ≡ j
+    so_many = let a = pages_length es in let b : length (pages es) ≡ length (take j ts) = ap length l.named in let c = length-take-le j ts (omega arith) in omega arith
+
+    pub loaded_more : (bs : List ℕ) → length bs ≡ 252 → (n.shown (1 + j) ≡ bytes bs) × Same n o → LoadedTo ts (j + 1) (es ++ entry bs ∷ []) m o
+    loaded_more bs size b = record {
       same = same_trans m n o l.same b.1;
-      page = λ i h. ⊎_elim (λ q. ap (λ (x : Entry). x.page) (at i q) ∙ pg ∙ ap (λ (x : ℕ). get_or ts x 0) (sym q)) (λ ne. ap (λ (x : Entry). x.page) (off i ne) ∙ l.page i (omega arith)) (cases_eq i j);
+      named = pages_push es (entry bs) ∙ ap (λ (xs : List ℕ). xs ++ get_or ts j 0 ∷ []) l.named ∙ sym (take_more ts j 0 lt);
       body = λ i h. ⊎_elim (λ q. ap (λ (x : ℕ). m.shown (1 + x)) q ∙ sym shown_at ∙ b.0 ∙ ap (λ (x : Entry). bytes x.bytes) (sym (at i q)))
-          (λ ne. l.body i (omega arith) ∙ ap (λ (x : Entry). bytes x.bytes) (sym (off i ne))) (cases_eq i j);
-      size = λ i h. ⊎_elim (λ q. ap (λ (x : Entry). length x.bytes) (at i q) ∙ size) (λ ne. ap (λ (x : Entry). length x.bytes) (off i ne) ∙ l.size i (omega arith)) (cases_eq i j);
+          (λ ne. l.body i (within i h ne) ∙ ap (λ (x : Entry). bytes x.bytes) (sym (off i h ne))) (cases_eq i j);
+      size = λ i h. ⊎_elim (λ q. ap (λ (x : Entry). length x.bytes) (at i q) ∙ size) (λ ne. ap (λ (x : Entry). length x.bytes) (off i h ne) ∙ l.size i (within i h ne)) (cases_eq i j);
     }
       where
-        at : (i : ℕ) → i ≡ j → get_or (set es j e) i blank ≡ e
-        at i q = ap (λ (x : ℕ). get_or (set es j e) x blank) q ∙ get_or-set_same es j e blank (omega arith)
+        at : (i : ℕ) → i ≡ j → get_or (es ++ entry bs ∷ []) i blank ≡ entry bs
+        at i q = get_or_push es (entry bs) blank i (let m = so_many in omega arith)
 
-        off : (i : ℕ) → i ≢ j → get_or (set es j e) i blank ≡ get_or es i blank
-        off i ne = get_or-set_other es j i e blank ne
+        within : (i : ℕ) → i < length (es ++ entry bs ∷ []) → i ≢ j → i < length es
+        within i h ne = let m = so_many in let p = length_push es (entry bs) in omega arith
+
+        off : (i : ℕ) → i < length (es ++ entry bs ∷ []) → i ≢ j → get_or (es ++ entry bs ∷ []) i blank ≡ get_or es i blank
+        off i h ne = get_or_append_left es (entry bs ∷ []) blank i (within i h ne)
 
     pub load_broken : (n.shown (1 + j) ≡ spoiled) × Same n o → (whole ts 1 m.shown ≡ false) × Same m o
     load_broken b = (whole_broken ts 1 j m.shown lt (sym shown_at ∙ b.0), same_trans m n o l.same b.1)
@@ -90,37 +105,23 @@ module _ (ts : List ℕ) (m : Meaning) (few : length ts ≤ 64) (a : Awake m) wh
     pub load_lost : Lost n o → Lost m o
     load_lost b = same_lost m n o l.same b
 
-  pub loaded_all : (n : Meaning) (into : Pending) → into.len ≡ length ts → (k : ℕ) → k ≡ length ts → LoadedTo ts k into.entries m n → LoadedAll ts m into n
-  loaded_all n into len k e l = record {
-    len = len;
-    all = record {
-      same = l.same;
-      page = λ i h. ap (λ (x : Entry). x.page) (at i h) ∙ l.page i (omega arith);
-      body = λ i h. l.body i (omega arith) ∙ ap (λ (x : Entry). bytes x.bytes) (sym (at i h));
-      size = λ i h. ap (λ (x : Entry). length x.bytes) (at i h) ∙ l.size i (omega arith);
-    };
-  }
-    where
-      at : (i : ℕ) → i < length ts → get_or (waiting into) i blank ≡ get_or into.entries i blank
-      at i h = get_or-take into.len into.entries i blank (omega arith)
-
 -- whether what was loaded is a group that stood: n is what was read after the header, with its targets ts
 module _ (T : State → List ℕ) (m n : Meaning) (ts : List ℕ) (few : length ts ≤ 64) (some : 0 < length ts) (a : Awake m) (e : ts ≡ T (m.shown 0)) (s : Same m n) where
   whole_then : whole ts 1 m.shown ≡ whole ts 1 n.shown
   whole_then = whole_same ts 1 m.shown n.shown (λ k lo hi. sym (s.shown k (let r = a.room in omega arith)))
 
-  pub found_from : (o : Meaning) (into : Pending) (r : Result Bool DeviceFault) → Loaded ts n r into o → Found T m r into o
-  found_from o into (Ok true) l = record {
-    some = let z = l.len in omega arith;
-    group = subst (λ (x : List ℕ). LoadedAll x m into o) e (record {
-      len = l.len;
-      all = record {
-        same = same_trans m n o s l.all.same;
-        page = l.all.page;
-        body = λ i h. sym (s.shown (1 + i) (let r = a.room in omega arith)) ∙ l.all.body i h;
-        size = l.all.size;
-      };
+  pub found_from : (o : Meaning) (r : Result (Option Pending) DeviceFault) → Loaded ts n r o → Found T m r o
+  found_from o (Ok (Some group)) l = record {
+    some = let p = pages_length (waiting group) in let q : length (pages (waiting group)) ≡ length ts = ap length (l.named ∙ take_all (length ts) ts (omega arith)) in omega arith;
+    group = subst (λ (x : List ℕ). LoadedTo x (length x) (waiting group) m o) e (record {
+      same = same_trans m n o s l.same;
+      named = l.named;
+      body = λ i h. sym (s.shown (1 + i) (let r = a.room in let k = within group l i h in omega arith)) ∙ l.body i h;
+      size = l.size;
     });
   }
-  found_from o into (Ok false) l = (inr (subst (λ (x : List ℕ). whole x 1 m.shown ≡ false) e (whole_then ∙ l.0)), same_trans m n o s l.1)
-  found_from o into (Err f) l = (l.0, same_lost m n o s l.1)
+    where
+      within : (group : Pending) → LoadedTo ts (length ts) (waiting group) n o → (i : ℕ) → i < length (waiting group) → i < 64
+      within group l i h = let p = pages_length (waiting group) in let q : length (pages (waiting group)) ≡ length ts = ap length (l.named ∙ take_all (length ts) ts (omega arith)) in omega arith
+  found_from o (Ok None) l = (inr (subst (λ (x : List ℕ). whole x 1 m.shown ≡ false) e (whole_then ∙ l.0)), same_trans m n o s l.1)
+  found_from o (Err f) l = (l.0, same_lost m n o s l.1)

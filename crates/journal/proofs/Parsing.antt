@@ -1,23 +1,30 @@
 -- What the reader of a header finds.
-use Rattle.std.proofs.Common.{◌≡◌, ℕ, suc, ◌+◌, ◌-◌, ◌*◌, ◌/◌, ◌%◌, ◌<◌, ◌≤◌, Bool, true, false, not, ◌&&◌, eqb, ltb, leb, ◌≢◌, List, [], ◌∷◌, ◌++◌, length, get_or, take, drop, set, replicate, sym, refl, ap, ◌∙◌, ⊎_elim, arith}
-use Rattle.std.proofs.lemmas.List.{at_drop_more, take_more, take_more_set, append_assoc, length-take-le, get_or-drop, get_or_append_left}
-use Rattle.std.proofs.lemmas.Bool.{eq-eqb, ne_eqb, lt-ltb, ltb-true, le-leb, leb-true, and_left, and_right, and_from, and_parts, and_cases, not-true, not_from_false, cases_Bool, cond-true, cond-false, false≢true}
+use Rattle.std.proofs.Common.{◌≡◌, ℕ, zero, suc, ◌+◌, ◌-◌, ◌*◌, ◌/◌, ◌%◌, ◌<◌, ◌≤◌, Bool, true, false, cond, not, ◌&&◌, ◌||◌, eqb, ltb, leb, List, [], ◌∷◌, ◌++◌, length, get_or, take, drop, Option, Some, None, MatchOption, MatchBool, sym, refl, ap, ◌∙◌, ⊎_elim, arith}
+use Rattle.std.proofs.lemmas.List.{at_drop_more, take_more, append_assoc, length-take-le}
+use Rattle.std.proofs.lemmas.Bool.{lt-ltb, le-leb, le-ltb, leb-true, and_left, and_right, and_from, and_parts, not_from_false, cases_Bool, cond-true, cond-false, false≢true}
+use Rattle.std.specs.Borrow.{Bor}
+use Rattle.std.specs.List.{list_any}
+use Rattle.std.specs.Simd.{first_chunks}
+use Rattle.std.proofs.lemmas.Bool.Decides.{nat_tests}
+use Rattle.arrayvec.specs.ArrayVec.{ArrayVec}
 use Rattle.layout.specs.Envelope.{envelope, Enveloped, body_part, same}
-use Rattle.layout.proofs.Envelopes.{envelope_inj, envelope_length, envelope_starts, body_part-envelope, same_true, same_self}
+use Rattle.layout.proofs.Envelopes.{envelope_inj, envelope_length, body_part-envelope, same_true, same_self}
 use Rattle.device.specs.Meaning.{bytes, has}
 use Rattle.journal.specs.declared.entries.Entry.{Entry}
 use Rattle.journal.specs.Waiting.{pages}
-use Rattle.journal.specs.Header.{two_bytes, pairs, header, all_below, distinct, once, names, named, targets}
+use Rattle.journal.specs.Header.{two_bytes, pairs, Numbers, header, all_below, distinct, once, names, named, targets}
 
 and_skip : (x y : Bool) → x ≡ true → (x && y) ≡ y
 and_skip true y e = refl
 and_skip false y e = absurd (false≢true e)
 
-pub has_more : (p : ℕ) (xs : List ℕ) (i : ℕ) → i < length xs → get_or xs i 0 ≢ p → has p (drop i xs) ≡ has p (drop (i + 1) xs)
-has_more p xs i h ne = at_drop_more (has p) xs i 0 h ∙ cond-false (eqb p (get_or xs i 0)) true (has p (drop (i + 1) xs)) (ne_eqb _ _ (λ e. ne (sym e)))
+turned : (a b : ℕ) → eqb a b ≡ eqb b a
+turned a b = grind (arith, nat_tests)
 
-pub has_stop : (p : ℕ) (xs : List ℕ) (i : ℕ) → i < length xs → get_or xs i 0 ≡ p → has p (drop i xs) ≡ true
-has_stop p xs i h e = at_drop_more (has p) xs i 0 h ∙ cond-true (eqb p (get_or xs i 0)) true (has p (drop (i + 1) xs)) (eq-eqb _ _ (sym e))
+-- what `contains` answers
+pub has_any : (p : ℕ) (xs : List ℕ) → list_any (λ y. eqb y p) xs ≡ has p xs
+has_any p [] = refl
+has_any p (x ∷ xs) = ap (λ b. b || list_any (λ y. eqb y p) xs) (turned x p) ∙ ap (λ b. eqb p x || b) (has_any p xs) ∙ elim (eqb p x) as (λ b. (b || has p xs) ≡ cond b true (has p xs)) [ true ↦ refl | false ↦ refl ]
 
 once_cons : (n t : ℕ) (ts : List ℕ) → t < n → has t ts ≡ false → once n (t ∷ ts) ≡ once n ts
 once_cons n t ts h e =
@@ -25,15 +32,16 @@ once_cons n t ts h e =
     let b : (not (has t ts) && distinct ts) ≡ distinct ts = and_skip (not (has t ts)) (distinct ts) (not_from_false (has t ts) e) in
     ap (λ (x : Bool). x && (not (has t ts) && distinct ts)) a ∙ ap (λ (x : Bool). all_below n ts && x) b
 
-pub once_more : (n : ℕ) (xs : List ℕ) (i : ℕ) → i < length xs → (ltb (get_or xs i 0) n && not (has (get_or xs i 0) (drop (i + 1) xs))) ≡ true → once n (drop i xs) ≡ once n (drop (i + 1) xs)
-once_more n xs i h e = let q = and_parts (ltb (get_or xs i 0) n) (not (has (get_or xs i 0) (drop (i + 1) xs))) e in
-    at_drop_more (once n) xs i 0 h ∙ once_cons n (get_or xs i 0) (drop (i + 1) xs) (ltb-true _ _ q.0) (not-true _ q.1)
+pub once_more : (n : ℕ) (xs : List ℕ) (i : ℕ) → i < length xs → get_or xs i 0 < n → has (get_or xs i 0) (drop (i + 1) xs) ≡ false → once n (drop i xs) ≡ once n (drop (i + 1) xs)
+once_more n xs i h l e = at_drop_more (once n) xs i 0 h ∙ once_cons n (get_or xs i 0) (drop (i + 1) xs) l e
 
-pub once_stop : (n : ℕ) (xs : List ℕ) (i : ℕ) → i < length xs → (ltb (get_or xs i 0) n && not (has (get_or xs i 0) (drop (i + 1) xs))) ≡ false → once n (drop i xs) ≡ false
-once_stop n xs i h e = at_drop_more (once n) xs i 0 h ∙ ⊎_elim
-    (λ a. and_left (all_below n (get_or xs i 0 ∷ drop (i + 1) xs)) (distinct (get_or xs i 0 ∷ drop (i + 1) xs)) (and_left (ltb (get_or xs i 0) n) (all_below n (drop (i + 1) xs)) a))
-    (λ b. and_right (all_below n (get_or xs i 0 ∷ drop (i + 1) xs)) (distinct (get_or xs i 0 ∷ drop (i + 1) xs)) (and_left (not (has (get_or xs i 0) (drop (i + 1) xs))) (distinct (drop (i + 1) xs)) b))
-    (and_cases (ltb (get_or xs i 0) n) (not (has (get_or xs i 0) (drop (i + 1) xs))) e)
+pub once_past : (n : ℕ) (xs : List ℕ) (i : ℕ) → i < length xs → n ≤ get_or xs i 0 → once n (drop i xs) ≡ false
+once_past n xs i h l = at_drop_more (once n) xs i 0 h
+    ∙ and_left (all_below n (get_or xs i 0 ∷ drop (i + 1) xs)) (distinct (get_or xs i 0 ∷ drop (i + 1) xs)) (and_left (ltb (get_or xs i 0) n) (all_below n (drop (i + 1) xs)) (le-ltb (get_or xs i 0) n l))
+
+pub once_again : (n : ℕ) (xs : List ℕ) (i : ℕ) → i < length xs → has (get_or xs i 0) (drop (i + 1) xs) ≡ true → once n (drop i xs) ≡ false
+once_again n xs i h e = at_drop_more (once n) xs i 0 h
+    ∙ and_right (all_below n (get_or xs i 0 ∷ drop (i + 1) xs)) (distinct (get_or xs i 0 ∷ drop (i + 1) xs)) (and_left (not (has (get_or xs i 0) (drop (i + 1) xs))) (distinct (drop (i + 1) xs)) (ap not e))
 
 -- the numbers read so far
 pairs_push : (xs : List ℕ) (j h l : ℕ) → length xs ≡ 2 * j → pairs (xs ++ h ∷ l ∷ []) ≡ pairs xs ++ (h * 256 + l) ∷ []
@@ -41,30 +49,43 @@ pairs_push [] j h l e = refl
 pairs_push (a ∷ []) j h l e = absurd (omega arith)
 pairs_push (a ∷ (b ∷ xs)) j h l e = ap (λ (r : List ℕ). (a * 256 + b) ∷ r) (pairs_push xs (j - 1) h l (omega arith))
 
-pub pairs_more : (ys ts : List ℕ) (j : ℕ) → 2 * j + 1 < length ys → j < length ts → take j ts ≡ pairs (take (2 * j) ys)
-    → take (j + 1) (set ts j (get_or ys (2 * j) 0 * 256 + get_or ys (2 * j + 1) 0)) ≡ pairs (take (2 * (j + 1)) ys)
-pairs_more ys ts j h lt e =
+pub pairs_more : (ys : List ℕ) (j : ℕ) → 2 * j + 1 < length ys → pairs (take (2 * (j + 1)) ys) ≡ pairs (take (2 * j) ys) ++ (get_or ys (2 * j) 0 * 256 + get_or ys (2 * j + 1) 0) ∷ []
+pairs_more ys j h =
     let a : ℕ = get_or ys (2 * j) 0 in
     let b : ℕ = get_or ys (2 * j + 1) 0 in
     let one : take (2 * j + 1) ys ≡ take (2 * j) ys ++ a ∷ [] = take_more ys (2 * j) 0 (omega arith) in
     let two : take (2 * j + 1 + 1) ys ≡ take (2 * j + 1) ys ++ b ∷ [] = take_more ys (2 * j + 1) 0 (omega arith) in
-    let all : take (2 * (j + 1)) ys ≡ take (2 * j) ys ++ (a ∷ b ∷ []) = ap (λ (k : ℕ). take k ys) (let z : 2 * (j + 1) ≡ 2 * j + 1 + 1 = omega arith in z)
-    ∙ two ∙ ap (λ (l : List ℕ). l ++ b ∷ []) one ∙ append_assoc (take (2 * j) ys) (a ∷ []) (b ∷ []) in
-    take_more_set ts j (a * 256 + b) lt
-    ∙ ap (λ (l : List ℕ). l ++ (a * 256 + b) ∷ []) e
-    ∙ sym (pairs_push (take (2 * j) ys) j a b (length-take-le (2 * j) ys (omega arith)))
-    ∙ ap pairs (sym all)
+    ap (λ (k : ℕ). pairs (take k ys)) (let z : 2 * (j + 1) ≡ 2 * j + 1 + 1 = omega arith in z)
+    ∙ ap pairs (two ∙ ap (λ (l : List ℕ). l ++ b ∷ []) one ∙ append_assoc (take (2 * j) ys) (a ∷ []) (b ∷ []))
+    ∙ pairs_push (take (2 * j) ys) j a b (length-take-le (2 * j) ys (omega arith))
+
+-- two bytes of a body, cut into twos
+pub chunk_at : (m : ℕ) (xs : List ℕ) (k : ℕ) → k < m → 2 * m ≤ length xs → get_or (first_chunks 2 m xs) k [] ≡ get_or xs (2 * k) 0 ∷ get_or xs (2 * k + 1) 0 ∷ []
+chunk_at zero xs k h l = absurd (omega arith)
+chunk_at (suc m) [] k h l = absurd (omega arith)
+chunk_at (suc m) (a ∷ []) k h l = absurd (omega arith)
+chunk_at (suc m) (a ∷ (b ∷ xs)) zero h l = refl
+chunk_at (suc m) (a ∷ (b ∷ xs)) (suc k) h l =
+    let e : 2 * suc k ≡ suc (suc (2 * k)) = omega arith in
+    let f : 2 * suc k + 1 ≡ suc (suc (2 * k + 1)) = omega arith in
+    chunk_at m xs k (omega arith) (omega arith)
+    ∙ sym (ap (λ (j : ℕ). get_or (a ∷ (b ∷ xs)) j 0 ∷ get_or (a ∷ (b ∷ xs)) (2 * suc k + 1) 0 ∷ []) e ∙ ap (λ (j : ℕ). get_or xs (2 * k) 0 ∷ get_or (a ∷ (b ∷ xs)) j 0 ∷ []) f)
 
 -- bytes that make numbers are those of the numbers
-bytes_back : (b : List ℕ) (k : ℕ) → length b ≡ 2 * k → ((i : ℕ) → i < length b → get_or b i 0 < 256) → two_bytes (pairs b) ≡ b
+pub bytes_back : (b : List ℕ) (k : ℕ) → length b ≡ 2 * k → ((i : ℕ) → get_or b i 0 < 256) → two_bytes (pairs b) ≡ b
 bytes_back [] k e s = refl
 bytes_back (h ∷ []) k e s = absurd (omega arith)
 bytes_back (h ∷ (l ∷ rest)) k e s =
-    let low : l < 256 = s 1 (omega arith) in
+    let low : l < 256 = s 1 in
     let a : (h * 256 + l) / 256 ≡ h = omega arith in
     let b : (h * 256 + l) % 256 ≡ l = omega arith in
-    let r : two_bytes (pairs rest) ≡ rest = bytes_back rest (k - 1) (omega arith) (λ i lt. s (suc (suc i)) (omega arith)) in
+    let r : two_bytes (pairs rest) ≡ rest = bytes_back rest (k - 1) (omega arith) (λ i. s (suc (suc i))) in
     λ i. a i ∷ b i ∷ r i
+
+-- numbers are those that their bytes make
+numbers_back : (ts : List ℕ) → pairs (two_bytes ts) ≡ ts
+numbers_back [] = refl
+numbers_back (t ∷ ts) = let a : t / 256 * 256 + t % 256 ≡ t = omega arith in let r = numbers_back ts in λ i. a i ∷ r i
 
 pub two_length : (ts : List ℕ) → length (two_bytes ts) ≡ 2 * length ts
 two_length [] = refl
@@ -96,31 +117,37 @@ module _ (n : ℕ) (page : List ℕ) where
     as_named : named n page (pairs body) ≡ targets n (bytes page)
     as_named = ap (λ (b : List ℕ). named n page (pairs b)) (sym (ap body_part v.is ∙ body_part-envelope body))
 
-    whole_body : names n page (pairs body) ≡ true → length body ≡ 2 * length (pairs body)
-    whole_body y = ap length (envelope_inj body (two_bytes (pairs body)) (sym v.is ∙ header_of (pairs body) y)) ∙ two_length (pairs body)
+    tests : (ts : List ℕ) → names n page ts ≡ true → (leb (length ts) 64 ≡ true) × (once n ts ≡ true)
+    tests ts y = and_parts (leb (length ts) 64) (once n ts) (and_parts (same page (header ts)) (leb (length ts) 64 && once n ts) y).1
 
-    few_named : names n page (pairs body) ≡ true → length (pairs body) ≤ 64
-    few_named y = leb-true (length (pairs body)) 64 (and_parts (leb (length (pairs body)) 64) (once n (pairs body)) (and_parts (same page (header (pairs body))) (leb (length (pairs body)) 64 && once n (pairs body)) y).1).0
+    -- a body that is no numbers of two bytes each names nothing
+    pub no_numbers : ((ts : List ℕ) → Numbers body ts → ⊥) → [] ≡ targets n (bytes page)
+    no_numbers f = refused (pairs body) (λ y. f (pairs body) (record {
+      few = leb-true (length (pairs body)) 64 (tests (pairs body) y).0;
+      made = sym (envelope_inj body (two_bytes (pairs body)) (sym v.is ∙ header_of (pairs body) y));
+    })) ∙ as_named
 
-    pub too_long : 128 < length body → [] ≡ targets n (bytes page)
-    too_long h = refused (pairs body) (λ y. let a = whole_body y in let b = few_named y in omega arith) ∙ as_named
+    module _ (ts : List ℕ) (k : Numbers body ts) where
+      its : named n page ts ≡ targets n (bytes page)
+      its = ap (named n page) (sym (ap pairs (sym k.made) ∙ numbers_back ts)) ∙ as_named
 
-    pub odd : length body % 2 ≢ 0 → [] ≡ targets n (bytes page)
-    odd h = refused (pairs body) (λ y. h (let a = whole_body y in omega arith)) ∙ as_named
+      pub not_once : once n ts ≡ false → [] ≡ targets n (bytes page)
+      not_once e = refused ts (λ y. false≢true (sym e ∙ (tests ts y).1)) ∙ its
 
-    pub not_once : once n (pairs body) ≡ false → [] ≡ targets n (bytes page)
-    not_once e = refused (pairs body) (λ y. false≢true (sym e ∙ (and_parts (leb (length (pairs body)) 64) (once n (pairs body)) (and_parts (same page (header (pairs body))) (leb (length (pairs body)) 64 && once n (pairs body)) y).1).1)) ∙ as_named
+      pub names_group : once n ts ≡ true → ts ≡ targets n (bytes page)
+      names_group o =
+          let is : page ≡ header ts = v.is ∙ ap envelope (sym k.made) in
+          sym (cond-true (names n page ts) ts [] (and_from (same page (header ts)) (leb (length ts) 64 && once n ts)
+          (ap (λ (p : List ℕ). same page p) (sym is) ∙ same_self page) (and_from (leb (length ts) 64) (once n ts) (le-leb _ _ k.few) o))) ∙ its
 
-    small_body : ((i : ℕ) → get_or page i 0 < 256) → (i : ℕ) → i < length body → get_or body i 0 < 256
-    small_body s i lt =
-        let a : get_or page (3 + i) 0 ≡ get_or body i 0 = sym (get_or-drop 3 page i 0) ∙ ap (λ (l : List ℕ). get_or l i 0) (envelope_starts page body v).3 ∙ get_or_append_left body (replicate (249 - length body) 0) 0 i lt in
-        let b = s (3 + i) in
-        omega arith
-
-    pub names_group : ((i : ℕ) → get_or page i 0 < 256) → length body ≤ 128 → length body % 2 ≡ 0 → once n (pairs body) ≡ true → pairs body ≡ targets n (bytes page)
-    names_group s l e o =
-        let back : two_bytes (pairs body) ≡ body = bytes_back body (length body / 2) (omega arith) (small_body s) in
-        let is : page ≡ header (pairs body) = v.is ∙ ap envelope (sym back) in
-        let few : length (pairs body) ≤ 64 = let a : length body ≡ 2 * length (pairs body) = sym (ap length back) ∙ two_length (pairs body) in omega arith in
-        sym (cond-true (names n page (pairs body)) (pairs body) [] (and_from (same page (header (pairs body))) (leb (length (pairs body)) 64 && once n (pairs body))
-        (ap (λ (p : List ℕ). same page p) (sym is) ∙ same_self page) (and_from (leb (length (pairs body)) 64) (once n (pairs body)) (le-leb _ _ few) o))) ∙ as_named
+  -- what is found of a page, by its body o and the numbers r in it
+  pub parsed : length page ≡ 252 → (o : Option (Bor (List ℕ))) (r : Option (ArrayVec ℕ)) → MatchOption o ((body : List ℕ) → Enveloped page body → ⊥) (λ b. Enveloped page b.now)
+      → MatchOption o (r ≡ None) (λ b. MatchOption r ((ts : List ℕ) → Numbers b.now ts → ⊥) (λ t. Numbers b.now t.items))
+      → MatchOption r ([] ≡ targets n (bytes page)) (λ t. MatchBool (once n t.items) (t.items ≡ targets n (bytes page)) ([] ≡ targets n (bytes page)))
+  parsed len None r v e = rw e (not_by_layout len v)
+  parsed len (Some b) None v e = no_numbers b.now v e
+  parsed len (Some b) (Some t) v e = either (once n t.items) (names_group b.now v t.items e) (not_once b.now v t.items e)
+    where
+      either : (b : Bool) {A B : Type 0} → (b ≡ true → A) → (b ≡ false → B) → MatchBool b A B
+      either true f g = f refl
+      either false f g = g refl

@@ -1,28 +1,13 @@
 -- A page that joins those that wait, or takes its old place.
-use Rattle.std.proofs.Common.{◌≡◌, ℕ, zero, suc, ◌+◌, ◌<◌, ◌≤◌, min, true, false, cond, eqb, ◌≢◌, ◌⊎◌, List, [], ◌∷◌, ◌++◌, length, get_or, take, set, sym, refl, ap, ◌∙◌, subst, inl, inr, ⊎_elim, arith}
-use Rattle.std.proofs.lemmas.List.{take_all, take_more_set, length-take-le}
-use Rattle.std.proofs.lemmas.Bool.{cases_lt, eqb-true, eqb-false, eq-eqb, ne_eqb, cases_Bool, cond-true, cond-false, false≢true, both_ways}
+use Rattle.std.proofs.Common.{◌≡◌, ℕ, zero, suc, ◌+◌, ◌<◌, ◌≤◌, true, false, cond, eqb, ◌≢◌, ◌⊎◌, List, [], ◌∷◌, ◌++◌, length, get_or, set, Some, None, sym, refl, ap, ◌∙◌, subst, inl, inr, ⊎_elim, arith}
+use Rattle.std.proofs.lemmas.Bool.{eqb-true, eqb-false, eq-eqb, ne_eqb, cases_Bool, cond-true, cond-false, false≢true, both_ways}
 use Rattle.device.specs.Meaning.{State, bytes, has, Distinct}
 use Rattle.journal.specs.declared.entries.Entry.{Entry}
-use Rattle.journal.specs.Waiting.{blank, pages, held, AllFit, Place, with_page, Put}
-use Rattle.journal.proofs.Helds.{has_later, absent}
+use Rattle.journal.specs.Waiting.{blank, pages, held, AllFit, place, with_page, PutDone, PutFull}
+use Rattle.journal.proofs.Helds.{has_later, absent, placed, not_placed}
 
--- no more than there is
-pub take_short : (xs : List Entry) (k n : ℕ) → n ≡ min k (length xs) → take n xs ≡ take k xs
-take_short xs k n e = ⊎_elim
-    (λ h. ap (λ (j : ℕ). take j xs) (let z : n ≡ k = omega arith in z))
-    (λ h. take_all n xs (omega arith) ∙ sym (take_all k xs (omega arith)))
-    (cases_lt k (length xs))
-
-abbrev entry : ℕ → List ℕ → Entry
+abbrev pub entry : ℕ → List ℕ → Entry
 entry p buf = record { page = p; bytes = buf }
-
-set_take : (xs : List Entry) (n k : ℕ) (e : Entry) → take n (set xs k e) ≡ set (take n xs) k e
-set_take [] zero k e = refl
-set_take [] (suc n) k e = refl
-set_take (x ∷ xs) zero k e = refl
-set_take (x ∷ xs) (suc n) zero e = refl
-set_take (x ∷ xs) (suc n) (suc k) e = ap (λ (l : List Entry). x ∷ l) (set_take xs n k e)
 
 abbrev NotBefore : List Entry → ℕ → ℕ → Type 0
 NotBefore es p k = (j : ℕ) → j < k → (get_or es j blank).page ≡ p → ⊥
@@ -41,34 +26,18 @@ with_none (x ∷ es) p buf n =
     ∙ sym (cond-false (eqb x.page p) (entry p buf ∷ es) _ (ne_eqb x.page p (n 0 (omega arith))))
 
 -- what `put` leaves in memory
-module _ (xs : List Entry) (n : ℕ) (p k : ℕ) (buf : List ℕ) (len : length xs ≡ 64) (few : n ≤ 64) (pl : Place (take n xs) p k) where
-  size : length (take n xs) ≡ n
-  size = length-take-le n xs (omega arith)
+module _ (es : List Entry) (p : ℕ) (buf : List ℕ) where
+  pub put_old : (k : ℕ) → Some k ≡ place es p → PutDone es p buf (set es k (entry p buf))
+  put_old k e = let a = placed es p k e in record {
+    room = inl (has_later es p k a.within a.here);
+    joins = with_first es p buf k a.within a.here a.before;
+  }
 
-  pub put_old : k < 64 → k ≢ n → Put (take n xs) p buf true (take n (set xs k (entry p buf)))
-  put_old h ne =
-      let s = size in
-      let w = pl.within in
-      let lt : k < length (take n xs) = omega arith in
-      record {
-        room = inl (has_later (take n xs) p k lt (pl.here lt));
-        joins = set_take xs n k (entry p buf) ∙ with_first (take n xs) p buf k lt (pl.here lt) pl.before;
-      }
+  pub put_new : None ≡ place es p → length es < 64 → PutDone es p buf (es ++ entry p buf ∷ [])
+  put_new e h = record { room = inr h; joins = with_none es p buf (not_placed es p e) }
 
-  pub put_new : k < 64 → k ≡ n → Put (take n xs) p buf true (take (k + 1) (set xs k (entry p buf)))
-  put_new h e =
-      let s = size in
-      record {
-        room = inr (omega arith);
-        joins = take_more_set xs k (entry p buf) (omega arith)
-            ∙ ap (λ (j : ℕ). take j xs ++ entry p buf ∷ []) e
-            ∙ with_none (take n xs) p buf (λ j l. pl.before j (omega arith));
-      }
-
-pub put_full : (es : List Entry) (p k : ℕ) (buf : List ℕ) → length es ≤ 64 → Place es p k → 64 ≤ k → Put es p buf false es
-put_full es p k buf few pl h =
-    let w = pl.within in
-    record { absent = absent es p (λ j l. pl.before j (omega arith)); full = omega arith; same = refl }
+  pub put_full : None ≡ place es p → 64 ≤ length es → PutFull es p es
+  put_full e h = record { absent = absent es p (not_placed es p e); full = h; same = refl }
 
 -- what is then shown, and what waits
 pub with_held : (es : List Entry) (p : ℕ) (buf : List ℕ) (d : State) → held (with_page es p buf) p d ≡ bytes buf

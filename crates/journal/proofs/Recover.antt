@@ -1,6 +1,6 @@
 -- A restart of the device below and what follows leave one of the ends.
-use Rattle.std.proofs.Common.{◌≡◌, ℕ, zero, suc, ◌+◌, ◌<◌, ◌≤◌, min, true, not, ◌&&◌, ltb, leb, ◌≢◌, List, [], ◌∷◌, length, get_or, Ok, Err, sym, refl, ap, ◌∙◌, subst, inl, inr, ⊎_elim, arith}
-use Rattle.std.proofs.lemmas.List.{ext_get_or}
+use Rattle.std.proofs.Common.{◌≡◌, ℕ, suc, ◌+◌, ◌<◌, ◌≤◌, true, not, ◌&&◌, ltb, leb, ◌≢◌, List, [], ◌∷◌, length, get_or, Ok, Err, sym, refl, ap, ◌∙◌, subst, inl, inr, ⊎_elim, arith}
+use Rattle.std.proofs.lemmas.List.{take_all}
 use Rattle.std.proofs.lemmas.Bool.{cases_Bool, cases_lt, cond-true, cond-false, and_parts, ltb-true, not-true}
 use Rattle.device.specs.declared.DeviceFault.{DeviceFault}
 use Rattle.device.specs.Meaning.{State, bytes, spoiled, Meaning, Sound, has, Distinct}
@@ -8,8 +8,7 @@ use Rattle.device.specs.Promises.{Same, Lost, Restart, RestartDone}
 use Rattle.device.specs.Numbers.{number}
 use Rattle.device.specs.Calls.{Answer}
 use Rattle.journal.specs.declared.entries.Entry.{Entry}
-use Rattle.journal.specs.declared.entries.Pending.{Pending}
-use Rattle.journal.specs.Waiting.{waiting, blank, pages, AllFit}
+use Rattle.journal.specs.Waiting.{blank, pages, AllFit}
 use Rattle.layout.specs.Envelope.{body_part, same}
 use Rattle.journal.specs.Header.{pairs, header, all_below, distinct, once, names, named, targets}
 use Rattle.journal.specs.Standing.{above, whole, laid, home}
@@ -55,11 +54,6 @@ distinct_from : (ts : List ℕ) → distinct ts ≡ true → Distinct ts
 distinct_from [] e = tt
 distinct_from (t ∷ ts) e = let q = and_parts (not (has t ts)) (distinct ts) e in (not-true (has t ts) q.0, distinct_from ts q.1)
 
-page_at : (es : List Entry) (i : ℕ) → get_or (pages es) i 0 ≡ (get_or es i blank).page
-page_at [] i = refl
-page_at (e ∷ es) zero = refl
-page_at (e ∷ es) (suc i) = page_at es i
-
 -- reads change nothing of what a restart left
 restart_same : (m n o : Meaning) → RestartDone m n → Same n o → RestartDone m o
 restart_same m n o r s = let c = r.ran.count in record {
@@ -102,21 +96,18 @@ pub enough : (n : Meaning) → above n.count ≢ 0 → 65 < n.count
 enough n pos = ⊎_elim (λ h. h) (λ h. absurd (pos (omega arith))) (cases_lt 65 n.count)
 
 -- a group stands, and is in memory
-module _ (m n o : Meaning) (r : RestartDone m n) (so : Sound o) (pos : above n.count ≢ 0) (work : Pending) (sz : length (waiting work) ≡ min work.len 64) (found : FoundGroup (reader m) n work o) where
-  abbrev es : List Entry
-  es = waiting work
-
+module _ (m n o : Meaning) (r : RestartDone m n) (so : Sound o) (pos : above n.count ≢ 0) (es : List Entry) (found : FoundGroup (reader m) n es o) where
   l : LoadedTo (reader m (n.shown 0)) (length (reader m (n.shown 0))) es n o
-  l = found.group.all
+  l = found.group
+
+  named_pages : pages es ≡ reader m (n.shown 0)
+  named_pages = l.named ∙ take_all (length (reader m (n.shown 0))) (reader m (n.shown 0)) (omega arith)
 
   len : length es ≡ length (reader m (n.shown 0))
-  len = let a = short (above m.count) (n.shown 0) in let g = found.group.len in omega (arith, sz)
+  len = sym (pages_length es) ∙ ap length named_pages
 
   after : RestartDone m o
   after = restart_same m n o r l.same
-
-  named_pages : pages es ≡ reader m (n.shown 0)
-  named_pages = ext_get_or 0 (pages es) (reader m (n.shown 0)) (pages_length es ∙ len) (λ i h. page_at es i ∙ l.page i (let e = pages_length es in let f = len in omega arith))
 
   few : length es ≤ 64
   few = let a = short (above m.count) (n.shown 0) in let b = len in omega arith
@@ -132,16 +123,16 @@ module _ (m n o : Meaning) (r : RestartDone m n) (so : Sound o) (pos : above n.c
   tests = ap (once (above m.count)) named_pages ∙ targets_once (above m.count) (n.shown 0)
 
   fit : AllFit (above m.count) es
-  fit = fit_from (above m.count) es (and_parts (all_below (above m.count) (pages es)) (distinct (pages es)) tests).0 (λ j h. l.size j (let f = len in omega arith))
+  fit = fit_from (above m.count) es (and_parts (all_below (above m.count) (pages es)) (distinct (pages es)) tests).0 (λ j h. l.size j h)
 
   apart : Distinct (pages es)
   apart = distinct_from (pages es) (and_parts (all_below (above m.count) (pages es)) (distinct (pages es)) tests).1
 
   pub stands : Group (reader m) n.shown es
   stands = record {
-    some = let s = found.some in let f = len in let g = found.group.len in omega arith;
+    some = found.some;
     named = named_pages;
-    bodies = λ i h. l.body i (let f = len in omega arith);
+    bodies = λ i h. l.body i h;
   }
 
   pub lay_ready : LayReady (reader m) es (home o) o

@@ -1,13 +1,14 @@
 -- Calls that go below in a planned order: one call, one part of a plan after another, and a plan that was broken off.
-use Rattle.std.proofs.Common.{◌≡◌, ℕ, zero, suc, ◌+◌, ◌<◌, Bool, true, false, cond, ◌||◌, List, [], ◌∷◌, ◌++◌, length, get_or, take, drop, Ok, Err, sym, refl, ap, ◌∙◌, subst, append_assoc, append-nil, arith}
+use Rattle.std.proofs.Common.{◌≡◌, ℕ, zero, suc, ◌+◌, ◌<◌, Bool, true, false, ◌||◌, List, [], ◌∷◌, ◌++◌, length, get_or, take, drop, Ok, Err, sym, refl, ap, ◌∙◌, subst, append_assoc, append-nil, arith}
 use Rattle.std.proofs.lemmas.List.{take_more, length-take-le}
 use Rattle.device.specs.declared.DeviceFault.{DeviceFault}
 use Rattle.device.specs.Meaning.{Meaning}
 use Rattle.device.specs.Calls.{Answer, Call, writes, Step, always, lost, Calls, none, more, DeviceCalls}
 use Rattle.device.proofs.Still.{calls_still}
 use Rattle.journal.specs.declared.entries.Entry.{Entry}
+use Rattle.journal.specs.declared.places.Area.{Area}
 use Rattle.journal.specs.Waiting.{blank}
-use Rattle.journal.specs.Sending.{unread, changes, Front, Makes, placed}
+use Rattle.journal.specs.Sending.{unread, changes, Front, Makes, page_of, placed}
 
 -- one chain after another, with the calls of both
 chained : {D : Type 0} {runs : D → Bool} {step : Call → D → Answer → D → Type 0} {heard : Bool} {a b c : D}
@@ -58,25 +59,25 @@ module _ {D : Type 0} (meaning : D → Meaning) where
   looked_on r s d e h m = from_reads s d e (subst (λ (b : Bool). (c : DeviceCalls meaning b d e) × (changes c ≡ [])) h (only_reads r d e m))
 
 -- the entries, written one after another
-placed_push : (home : Bool) (j : ℕ) (es : List Entry) (e : Entry) → placed home j (es ++ e ∷ []) ≡ placed home j es ++ writes (cond home (65 + e.page) (1 + (j + length es))) e.bytes ∷ []
-placed_push home j [] e = ap (λ (k : ℕ). writes (cond home (65 + e.page) (1 + k)) e.bytes ∷ []) (let z : j ≡ j + 0 = omega arith in z)
-placed_push home j (d ∷ es) e = ap (λ (l : List Call). writes (cond home (65 + d.page) (1 + j)) d.bytes ∷ l)
-    (placed_push home (suc j) es e ∙ ap (λ (k : ℕ). placed home (suc j) es ++ writes (cond home (65 + e.page) (1 + k)) e.bytes ∷ []) (let z : suc j + length es ≡ j + suc (length es) = omega arith in z))
+placed_push : (area : Area) (j : ℕ) (es : List Entry) (e : Entry) → placed area j (es ++ e ∷ []) ≡ placed area j es ++ writes (page_of area (j + length es) e) e.bytes ∷ []
+placed_push area j [] e = ap (λ (k : ℕ). writes (page_of area k e) e.bytes ∷ []) (let z : j ≡ j + 0 = omega arith in z)
+placed_push area j (d ∷ es) e = ap (λ (l : List Call). writes (page_of area j d) d.bytes ∷ l)
+    (placed_push area (suc j) es e ∙ ap (λ (k : ℕ). placed area (suc j) es ++ writes (page_of area k e) e.bytes ∷ []) (let z : suc j + length es ≡ j + suc (length es) = omega arith in z))
 
-pub placed_more : (home : Bool) (es : List Entry) (j : ℕ) → j < length es
-    → placed home 0 (take j es) ++ writes (cond home (65 + (get_or es j blank).page) (1 + j)) (get_or es j blank).bytes ∷ [] ≡ placed home 0 (take (j + 1) es)
-placed_more home es j lt =
+pub placed_more : (area : Area) (es : List Entry) (j : ℕ) → j < length es
+    → placed area 0 (take j es) ++ writes (page_of area j (get_or es j blank)) (get_or es j blank).bytes ∷ [] ≡ placed area 0 (take (j + 1) es)
+placed_more area es j lt =
     let t = length-take-le j es (omega arith) in
     let l : 0 + length (take j es) ≡ j = omega arith in
-    sym (ap (placed home 0) (take_more es j blank lt) ∙ placed_push home 0 (take j es) (get_or es j blank)
-    ∙ ap (λ (k : ℕ). placed home 0 (take j es) ++ writes (cond home (65 + (get_or es j blank).page) (1 + k)) (get_or es j blank).bytes ∷ []) l)
+    sym (ap (placed area 0) (take_more es j blank lt) ∙ placed_push area 0 (take j es) (get_or es j blank)
+    ∙ ap (λ (k : ℕ). placed area 0 (take j es) ++ writes (page_of area k (get_or es j blank)) (get_or es j blank).bytes ∷ []) l)
 
-placed_split : (home : Bool) (j k : ℕ) (es : List Entry) → placed home j es ≡ placed home j (take k es) ++ placed home (j + k) (drop k es)
-placed_split home j zero es = ap (λ (i : ℕ). placed home i es) (let z : j ≡ j + 0 = omega arith in z)
-placed_split home j (suc k) [] = refl
-placed_split home j (suc k) (e ∷ es) = ap (λ (l : List Call). writes (cond home (65 + e.page) (1 + j)) e.bytes ∷ l)
-    (placed_split home (suc j) k es ∙ ap (λ (i : ℕ). placed home (suc j) (take k es) ++ placed home i (drop k es)) (let z : suc j + k ≡ j + suc k = omega arith in z))
+placed_split : (area : Area) (j k : ℕ) (es : List Entry) → placed area j es ≡ placed area j (take k es) ++ placed area (j + k) (drop k es)
+placed_split area j zero es = ap (λ (i : ℕ). placed area i es) (let z : j ≡ j + 0 = omega arith in z)
+placed_split area j (suc k) [] = refl
+placed_split area j (suc k) (e ∷ es) = ap (λ (l : List Call). writes (page_of area j e) e.bytes ∷ l)
+    (placed_split area (suc j) k es ∙ ap (λ (i : ℕ). placed area (suc j) (take k es) ++ placed area i (drop k es)) (let z : suc j + k ≡ j + suc k = omega arith in z))
 
 -- those that were written are the front part of all
-pub placed_part : (home : Bool) (es : List Entry) (k : ℕ) → placed home 0 (take k es) ++ placed home k (drop k es) ≡ placed home 0 es
-placed_part home es k = ap (λ (i : ℕ). placed home 0 (take k es) ++ placed home i (drop k es)) (let z : k ≡ 0 + k = omega arith in z) ∙ sym (placed_split home 0 k es)
+pub placed_part : (area : Area) (es : List Entry) (k : ℕ) → placed area 0 (take k es) ++ placed area k (drop k es) ≡ placed area 0 es
+placed_part area es k = ap (λ (i : ℕ). placed area 0 (take k es) ++ placed area i (drop k es)) (let z : k ≡ 0 + k = omega arith in z) ∙ sym (placed_split area 0 k es)

@@ -1,5 +1,5 @@
 -- The header: the page that names some targets, and the targets that a page names.
-use Rattle.std.specs.Prelude.{ℕ, ◌+◌, ◌*◌, Bool, true, cond, not, ◌&&◌, List, [], ◌∷◌, ◌++◌, length, nat_le, nat_lt}
+use Rattle.std.specs.Prelude.{◌≡◌, ℕ, ◌≤◌, ◌+◌, ◌*◌, Bool, true, cond, not, ◌&&◌, List, [], ◌∷◌, ◌++◌, length, nat_le, nat_lt}
 use Rattle.layout.specs.Envelope.{be2, envelope, body_part, same}
 use Rattle.device.specs.Meaning.{State, bytes, spoiled, has}
 
@@ -13,6 +13,11 @@ abbrev pub pairs : List ℕ → List ℕ
 pairs [] = []
 pairs (h ∷ []) = []
 pairs (h ∷ (l ∷ rest)) = (h * 256 + l) ∷ pairs rest
+
+-- these are the numbers of a body of two bytes each, at most 64
+pub record Numbers (body ts : List ℕ) : Type 0 where
+  pub few : length ts ≤ 64
+  pub made : two_bytes ts ≡ body
 
 -- the header that names these targets
 abbrev pub header : List ℕ → List ℕ

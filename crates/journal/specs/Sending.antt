@@ -1,9 +1,11 @@
 -- Which calls go below, and in which order.
-use Rattle.std.specs.Prelude.{◌≡◌, ℕ, suc, ◌+◌, Bool, true, false, cond, List, [], ◌∷◌, ◌++◌, Ok, Err, Result, MatchResult}
+use Rattle.std.specs.Prelude.{◌≡◌, ℕ, suc, ◌+◌, Bool, List, [], ◌∷◌, ◌++◌, Ok, Err, Result, MatchResult}
 use Rattle.device.specs.declared.DeviceFault.{DeviceFault}
 use Rattle.device.specs.Meaning.{Meaning}
 use Rattle.device.specs.Calls.{Answer, Call, reads, writes, syncs, restarts, discards, lost, Calls, none, more, DeviceCalls}
 use Rattle.journal.specs.declared.entries.Entry.{Entry}
+use Rattle.journal.specs.declared.places.Area.{Area}
+use Rattle.journal.specs.declared.places.Area.TheVariants.{Body, Home}
 use Rattle.journal.specs.Waiting.{pages}
 use Rattle.journal.specs.Header.{header}
 
@@ -34,14 +36,19 @@ abbrev pub bare : {A : Type 0} → Result A DeviceFault → Answer
 bare (Ok _) = Ok tt
 bare (Err e) = Err e
 
--- the entries from the j-th on, each written to its home page, or to body j
-abbrev pub placed : Bool → ℕ → List Entry → List Call
-placed home j [] = []
-placed home j (e ∷ es) = writes (cond home (65 + e.page) (1 + j)) e.bytes ∷ placed home (suc j) es
+-- the page below that entry j is written to: body j, or its home page
+abbrev pub page_of : Area → ℕ → Entry → ℕ
+page_of Body j e = 1 + j
+page_of Home j e = 65 + e.page
+
+-- the entries from the j-th on, each written to its page
+abbrev pub placed : Area → ℕ → List Entry → List Call
+placed area j [] = []
+placed area j (e ∷ es) = writes (page_of area j e) e.bytes ∷ placed area (suc j) es
 
 -- the entries as bodies or at their home pages, and a sync
-abbrev pub settling : Bool → List Entry → List Call
-settling home es = placed home 0 es ++ syncs ∷ []
+abbrev pub settling : Area → List Entry → List Call
+settling area es = placed area 0 es ++ syncs ∷ []
 
 -- a header, and a sync
 abbrev pub heading : List ℕ → List Call
@@ -49,13 +56,13 @@ heading page = writes 0 page ∷ syncs ∷ []
 
 -- the four steps of a sync: the bodies, the header that names them, the home pages, the header that names none, each with a sync
 abbrev pub step1 : List Entry → List Call
-step1 es = settling false es
+step1 es = settling Body es
 
 abbrev pub step2 : List Entry → List Call
 step2 es = heading (header (pages es))
 
 abbrev pub step3 : List Entry → List Call
-step3 es = settling true es
+step3 es = settling Home es
 
 abbrev pub step4 : List Call
 step4 = heading (header [])

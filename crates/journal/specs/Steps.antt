@@ -1,10 +1,11 @@
 -- The steps of a sync on the device below, by what it means before and after.
-use Rattle.std.specs.Prelude.{◌≡◌, ℕ, ◌-◌, ◌<◌, true, ◌⊎◌, List, [], MatchResult, slice_index_or}
+use Rattle.std.specs.Prelude.{◌≡◌, ℕ, ◌-◌, ◌<◌, ◌⊎◌, List, [], MatchResult, slice_index_or}
 use Rattle.device.specs.Meaning.{State, bytes, spoiled, Meaning, Alike}
 use Rattle.device.specs.Numbers.{number}
 use Rattle.device.specs.Promises.{Down, Ran}
 use Rattle.device.specs.Calls.{Answer}
 use Rattle.journal.specs.declared.entries.Entry.{Entry}
+use Rattle.journal.specs.declared.places.Area.TheVariants.{Home}
 use Rattle.journal.specs.Waiting.{blank, pages}
 use Rattle.journal.specs.Header.{header}
 use Rattle.journal.specs.Standing.{above, Ends}
@@ -35,7 +36,7 @@ pub record CutTo (T : State → List ℕ) (Image : (ℕ → State) → Type 0) (
 -- what steps 3 and 4 need: a header that stands, and its bodies
 pub record LayReady (T : State → List ℕ) (es : List Entry) (base : ℕ → State) (m : Meaning) : Type 0 where
   pub reads : Reads T es
-  pub ready : Ready true es m
+  pub ready : Ready Home es m
   pub quiet : m.waits ≡ []
   pub room : 65 < m.count
   pub laying : Within m (Laying T (pages es) (bodies es) base)
@@ -49,7 +50,7 @@ Finished T es base m r n =
 -- what a sync of these entries needs
 pub record CommitReady (T : State → List ℕ) (es : List Entry) (base : ℕ → State) (m : Meaning) : Type 0 where
   pub reads : Reads T es
-  pub homes : Ready true es m
+  pub homes : Ready Home es m
   pub quiet : m.waits ≡ []
   pub room : 65 < m.count
   pub idle : Within m (Bodies T (pages es) (bodies es) base)

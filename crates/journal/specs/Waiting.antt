@@ -1,5 +1,7 @@
 -- The written pages that wait in memory: entries, each a page's number above and its bytes.
-use Rattle.std.specs.Prelude.{◌≡◌, ℕ, ◌<◌, ◌≤◌, Bool, true, false, cond, ◌⊎◌, List, [], ◌∷◌, length, take, MatchBool, MatchResult, ◌==◌, ◌≢◌, slice_index_or}
+use Rattle.std.specs.Prelude.{◌≡◌, ℕ, ◌<◌, ◌≤◌, Bool, true, false, cond, ◌⊎◌, List, [], ◌∷◌, length, MatchBool, Option, option_map, MatchResult, position, ◌==◌}
+use Rattle.std.specs.List.{find}
+use Rattle.device.specs.declared.DeviceFault.TheVariants.{TooManyWaiting}
 use Rattle.device.specs.Meaning.{State, bytes, has}
 use Rattle.device.specs.Calls.{Answer, lost}
 use Rattle.journal.specs.declared.entries.Entry.{Entry}
@@ -7,7 +9,7 @@ use Rattle.journal.specs.declared.entries.Pending.{Pending}
 
 -- the entries that wait
 abbrev pub waiting : Pending → List Entry
-waiting p = take p.len p.entries
+waiting p = p.entries.items
 
 -- what stands for an entry behind the last one
 abbrev pub blank : Entry
@@ -28,11 +30,13 @@ abbrev pub AllFit : ℕ → List Entry → Type 0
 AllFit n [] = Unit {0}
 AllFit n (e ∷ es) = (e.page < n) × (length e.bytes ≡ 252) × AllFit n es
 
--- k is the place of page p, or the one behind the others where it does not wait
-pub record Place (es : List Entry) (p k : ℕ) : Type 0 where
-  pub within : k ≤ length es
-  pub before : (j : ℕ) → j < k → (slice_index_or es j blank).page ≢ p
-  pub here : k < length es → (slice_index_or es k blank).page ≡ p
+-- the place of page p, if it waits
+abbrev pub place : List Entry → ℕ → Option ℕ
+place es p = position (λ e. e.page == p) es
+
+-- the bytes with which page p waits, if it does
+abbrev pub look_up : List Entry → ℕ → Option (List ℕ)
+look_up es p = option_map (λ e. e.bytes) (find (λ e. e.page == p) es)
 
 -- the entries with page p in its old place, or behind the others
 abbrev pub with_page : List Entry → ℕ → List ℕ → List Entry
@@ -51,21 +55,8 @@ pub record PutFull (es : List Entry) (p : ℕ) (es' : List Entry) : Type 0 where
   pub same : es' ≡ es
 
 -- whether page p was kept, and what waits then
-abbrev pub Put : List Entry → ℕ → List ℕ → Bool → List Entry → Type 0
-Put es p buf r es' = MatchBool r (PutDone es p buf es') (PutFull es p es')
-
--- whether a page waits, and what the buffer then holds
-pub record Held (es : List Entry) (p : ℕ) (buf : List ℕ) : Type 0 where
-  pub waits : has p (pages es) ≡ true
-  pub shows : (d : State) → held es p d ≡ bytes buf
-
-pub record NotHeld (es : List Entry) (p : ℕ) (buf buf' : List ℕ) : Type 0 where
-  pub absent : has p (pages es) ≡ false
-  pub home : (d : State) → held es p d ≡ d
-  pub left : buf' ≡ buf
-
-abbrev pub Copied : List Entry → ℕ → List ℕ → Bool → List ℕ → Type 0
-Copied es p buf r buf' = MatchBool r (Held es p buf') (NotHeld es p buf buf')
+abbrev pub Put : List Entry → ℕ → List ℕ → Answer → List Entry → Type 0
+Put es p buf r es' = MatchResult r (λ _. PutDone es p buf es') (λ e. (e ≡ TooManyWaiting) × PutFull es p es')
 
 -- a call below that was answered 11 takes the journal down, and nothing waits; any other leaves it
 abbrev pub Heard : Bool → Pending → Answer → Bool → Pending → Type 0

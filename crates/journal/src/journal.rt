@@ -1,6 +1,7 @@
 // A journal: a group device over any device.
-ghost use Rattle.std.specs.Prelude.{◌≡◌, true, false, []};
+ghost use Rattle.std.specs.Prelude.{◌≡◌, true, false, [], MatchResult};
 ghost use Rattle.std.specs.Borrow.{sem, follows};
+ghost use Rattle.device.specs.declared.DeviceFault.TheVariants.{PowerLost};
 ghost use Rattle.device.specs.Calls.{reads, writes, syncs, restarts, discards};
 ghost use Rattle.device.specs.Meaning.{SoundGroup};
 ghost use Rattle.journal.specs.contracts.journal.Journal.{the_row};
@@ -34,17 +35,14 @@ impl<D> Journal<D> {
         &mut self.below
     }
 
-    // A journal that is down, with nothing in memory.
-    fn stopped(below: D) -> Journal<D>
-        ensures below { result.below ≡ below }
-        ensures down { result.up ≡ false }
-        ensures none { waiting result.pending ≡ [] }
+    // Refuses a call of a journal that is down.
+    fn running(&self) -> Result<(), DeviceFault>
+        ensures { MatchResult result (λ _. self.now.up ≡ true) (λ e. (self.now.up ≡ false) × (e ≡ PowerLost)) }
     {
-        Journal {
-            below,
-            up: false,
-            pending: Pending::new(),
+        if !self.up {
+            return Err(DeviceFault::PowerLost);
         }
+        Ok(())
     }
 
     // Power was lost below.
@@ -77,9 +75,7 @@ impl<D> Journal<D> {
         ensures up { Revived r self.new.up }
     {
         self.lose();
-        if let Ok(()) = r {
-            self.up = true;
-        }
+        self.up = r.is_ok();
         r
     }
 }
@@ -93,7 +89,11 @@ impl<D: Device> Journal<D> {
         ensures agrees { D.Device.agrees below → Agreeing D.Device.agrees D.Device.meaning result }
         ensures sound { D.Device.agrees below → SoundGroup (journaled D.Device.meaning result) (grouping D.Device.meaning result) }
     {
-        Journal::stopped(below)
+        Journal {
+            below,
+            up: false,
+            pending: Pending::new(),
+        }
     }
 
     /// The device below, when the journal is no longer wanted.
@@ -122,7 +122,8 @@ impl<D: Device> Journal<D> {
         ensures sends { Sending D.Device.agrees D.Device.meaning (reads page buf.old buf.new) self.old result self.new }
     {
         gate(self.count(), page, buf.len(), self.up)?;
-        if self.pending.copy_held(page, buf) {
+        if let Some(bytes) = self.pending.get(page) {
+            buf.copy_from_slice(bytes);
             return Ok(());
         }
         let r = self.below.read(home_page(page), buf);
@@ -136,10 +137,7 @@ impl<D: Device> Journal<D> {
         ensures sends { Sending D.Device.agrees D.Device.meaning (writes page buf.now) self.old result self.new }
     {
         gate(self.count(), page, buf.len(), self.up)?;
-        if self.pending.put(page as u16, buf) {
-            return Ok(());
-        }
-        Err(DeviceFault::TooManyWaiting)
+        self.pending.put(page as u16, buf)
     }
 
     // The four steps for what waits; nothing where nothing does.
@@ -148,13 +146,11 @@ impl<D: Device> Journal<D> {
         ensures calls { Calling D.Device.agrees D.Device.meaning syncs self.old result self.new }
         ensures sends { Sending D.Device.agrees D.Device.meaning syncs self.old result self.new }
     {
-        if !self.up {
-            return Err(DeviceFault::PowerLost);
-        }
-        if self.pending.count() == 0 {
+        self.running()?;
+        if self.pending.is_empty() {
             return Ok(());
         }
-        let r = commit(&mut self.below, self.pending.as_slice());
+        let r = commit(&mut self.below, &self.pending);
         self.pending.clear();
         self.hear(r)
     }
@@ -165,7 +161,7 @@ impl<D: Device> Journal<D> {
         ensures calls { Calling D.Device.agrees D.Device.meaning restarts self.old result self.new }
         ensures sends { Sending D.Device.agrees D.Device.meaning restarts self.old result self.new }
     {
-        let r = recover(&mut self.below, &mut self.pending);
+        let r = recover(&mut self.below);
         self.revive(r)
     }
 
@@ -175,9 +171,7 @@ impl<D: Device> Journal<D> {
         ensures calls { Calling D.Device.agrees D.Device.meaning discards self.old result self.new }
         ensures sends { Sending D.Device.agrees D.Device.meaning discards self.old result self.new }
     {
-        if !self.up {
-            return Err(DeviceFault::PowerLost);
-        }
+        self.running()?;
         self.pending.clear();
         Ok(())
     }

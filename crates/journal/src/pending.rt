@@ -1,95 +1,83 @@
 // The written pages that wait in memory, at most 64.
-ghost use Rattle.std.specs.Prelude.{◌≡◌, ◌≤◌, min, [], length, nat_le};
-ghost use Rattle.journal.specs.Waiting.{waiting, Copied, Place, Put};
+ghost use Rattle.std.specs.Prelude.{◌≡◌, ◌+◌, ◌<◌, ◌≤◌, [], ◌∷◌, ◌++◌, length, ◌==◌, option_map};
+ghost use Rattle.journal.specs.Waiting.{waiting, place, look_up, Put};
 
 use crate::entries::{Entry, Pending};
-
-// There is no place so far back.
-fn no_place(at: usize) -> bool
-    ensures { result ≡ nat_le 64 at }
-{
-    at >= 64
-}
+use arrayvec::ArrayVec;
+use device::{DeviceFault, PAGE_SIZE, Page};
 
 impl Pending {
     pub(crate) fn new() -> Pending
         ensures { waiting result ≡ [] }
     {
         Pending {
-            entries: [Entry {
-                page: 0,
-                bytes: [0; 252],
-            }; 64],
-            len: 0,
+            entries: ArrayVec::new(),
         }
     }
 
     pub(crate) fn clear(&mut self)
         ensures { waiting self.new ≡ [] }
     {
-        self.len = 0;
+        self.entries.clear();
     }
 
-    // How many entries wait.
-    pub(crate) fn count(&self) -> usize
-        ensures { result ≡ min self.now.len 64 }
+    // Whether none waits.
+    pub(crate) fn is_empty(&self) -> bool
+        ensures { result ≡ (length (waiting self.now) == 0) }
     {
-        self.len.min(64)
+        self.entries.is_empty()
     }
 
     // The entries that wait.
     pub(crate) fn as_slice(&self) -> &[Entry]
         ensures items { result.now ≡ waiting self.now }
-        ensures size { length result.now ≡ min self.now.len 64 }
+        ensures few { length result.now ≤ 64 }
     {
-        let n = self.count();
-        let all: &[Entry] = &self.entries;
-        &all[0..n]
+        self.entries.as_slice()
     }
 
-    // Copies a page that waits, if it does.
-    pub(crate) fn copy_held(&self, page: usize, buf: &mut [u8]) -> bool
-        requires { length buf.old ≡ 252 }
-        ensures { Copied (waiting self.now) page buf.old result buf.new }
+    // The bytes of a page that waits.
+    pub(crate) fn get(&self, page: usize) -> Option<&Page>
+        ensures { option_map (λ b. b.now) result ≡ look_up (waiting self.now) page }
     {
-        for e in self.as_slice() {
-            if usize::from(e.page) == page {
-                buf.copy_from_slice(&e.bytes);
-                return true;
-            }
-        }
-        false
+        self.entries
+            .iter()
+            .find(|e| usize::from(e.page) == page)
+            .map(|e| &e.bytes)
     }
 
-    // The place of the page, or the one behind the others where it does not wait.
-    fn place_of(&self, page: u16) -> usize
-        ensures place { Place (waiting self.now) page result }
-        ensures few { length (waiting self.now) ≤ 64 }
+    // The place of a page that waits.
+    fn place_of(&self, page: u16) -> Option<usize>
+        ensures { result ≡ place (waiting self.now) page }
     {
-        for (i, e) in self.as_slice().iter().enumerate() {
-            if e.page == page {
-                return i;
-            }
-        }
-        self.count()
+        self.entries.iter().position(|e| e.page == page)
     }
 
-    // Keeps the page in its old place or behind the others; false where 64 others wait.
-    pub(crate) fn put(&mut self, page: u16, buf: &[u8]) -> bool
+    // Keeps the page in its old place or behind the others, unless 64 others wait.
+    pub(crate) fn put(&mut self, page: u16, buf: &[u8]) -> Result<(), DeviceFault>
         requires { length buf.now ≡ 252 }
         ensures { Put (waiting self.old) page buf.now result (waiting self.new) }
     {
-        let at = self.place_of(page);
-        if no_place(at) {
-            return false;
-        }
-        let n = self.count();
-        let mut bytes = [0; 252];
+        let mut bytes = [0; PAGE_SIZE];
         bytes.copy_from_slice(buf);
-        self.entries[at] = Entry { page, bytes };
-        if at == n {
-            self.len = at + 1;
+        let entry = Entry { page, bytes };
+        match self.place_of(page) {
+            Some(at) => {
+                self.entries[at] = entry;
+                Ok(())
+            }
+            None => self
+                .entries
+                .try_push(entry)
+                .map_err(|_| DeviceFault::TooManyWaiting),
         }
-        true
+    }
+
+    // Adds an entry behind the others.
+    pub(crate) fn push(&mut self, entry: Entry)
+        requires { length (waiting self.old) < 64 }
+        ensures { waiting self.new ≡ waiting self.old ++ entry ∷ [] }
+    {
+        self.entries.push(entry);
     }
 }

@@ -1,6 +1,9 @@
 // Where the header, the bodies and the home pages stand below.
 ghost use Rattle.std.specs.Prelude.{◌≡◌, ◌+◌, ◌<◌};
 ghost use Rattle.journal.specs.Standing.{above};
+ghost use Rattle.journal.specs.Sending.{page_of};
+
+use crate::entries::Entry;
 
 /// The header's page.
 pub const HEADER: usize = 0;
@@ -26,4 +29,26 @@ pub(crate) fn home_page(i: usize) -> usize
     ensures { result ≡ 65 + i }
 {
     65 + i
+}
+
+/// Where the entries of a group are written.
+#[derive(Clone, Copy)]
+pub enum Area {
+    /// Each to the body of its place in the group.
+    Body,
+    /// Each to its home page.
+    Home,
+}
+
+impl Area {
+    // The page of entry j.
+    pub(crate) fn page(self, j: usize, entry: &Entry) -> usize
+        requires { j < 64 }
+        ensures { result ≡ page_of self j entry.now }
+    {
+        match self {
+            Area::Body => body_page(j),
+            Area::Home => home_page(usize::from(entry.page)),
+        }
+    }
 }

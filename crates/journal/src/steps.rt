@@ -1,59 +1,46 @@
 // The steps of a sync, on the device below.
-ghost use Rattle.std.specs.Prelude.{◌≡◌, ℕ, ◌+◌, ◌<◌, ◌≤◌, true, false, List, [], ◌++◌, length, if◌then◌else◌};
+ghost use Rattle.std.specs.Prelude.{◌≡◌, ℕ, true, false, List, [], ◌++◌};
 ghost use Rattle.device.specs.Meaning.{State};
+ghost use Rattle.journal.specs.Waiting.{waiting};
 ghost use Rattle.journal.specs.Header.{header};
 ghost use Rattle.journal.specs.Sending.{Makes, placed, settling, heading, step1, step2, step3, step4};
 ghost use Rattle.journal.specs.Writing.{Ready, WroteAll, SettledAll, HeadReady, HeadSet};
 ghost use Rattle.journal.specs.Steps.{LayReady, Finished, CommitReady, Committed};
 
-use crate::entries::Entry;
+use crate::entries::Pending;
 use crate::header::header_of;
-use crate::places::{HEADER, body_page, home_page};
-use device::{Device, DeviceFault};
+use crate::places::{Area, HEADER};
+use device::{Device, DeviceFault, Page};
 use layout::empty_page;
 
-// Where an entry goes: its home page, or body j.
-fn place(home: bool, j: usize, e: &Entry) -> usize
-    requires { j < 64 }
-    ensures { result ≡ (if home then 65 + e.now.page else 1 + j) }
-{
-    if home {
-        home_page(usize::from(e.page))
-    } else {
-        body_page(j)
-    }
-}
-
-// Writes the entries to their home pages, or as bodies.
-fn write_entries<D: Device>(below: &mut D, entries: &[Entry], home: bool) -> Result<(), DeviceFault>
-    requires { length entries.now ≤ 64 }
+// Writes the entries to their pages.
+fn write_entries<D: Device>(below: &mut D, entries: &Pending, area: Area) -> Result<(), DeviceFault>
     ensures agrees { D.Device.agrees below.old → D.Device.agrees below.new }
-    ensures makes { D.Device.agrees below.old → (D.Device.meaning below.old).runs ≡ true → Makes D.Device.meaning (placed home 0 entries.now) result below.old below.new }
-    ensures wrote { D.Device.agrees below.old → Ready home entries.now (D.Device.meaning below.old) → WroteAll home entries.now (D.Device.meaning below.old) result (D.Device.meaning below.new) }
+    ensures makes { D.Device.agrees below.old → (D.Device.meaning below.old).runs ≡ true → Makes D.Device.meaning (placed area 0 (waiting entries.now)) result below.old below.new }
+    ensures wrote { D.Device.agrees below.old → Ready area (waiting entries.now) (D.Device.meaning below.old) → WroteAll area (waiting entries.now) (D.Device.meaning below.old) result (D.Device.meaning below.new) }
 {
-    for (j, e) in entries.iter().enumerate() {
-        below.write(place(home, j, e), &e.bytes)?;
+    for (j, e) in entries.as_slice().iter().enumerate() {
+        below.write(area.page(j, e), &e.bytes)?;
     }
     Ok(())
 }
 
-// The entries at their home pages, or as bodies, and a sync.
+// The entries at their pages, and a sync.
 fn settle_entries<D: Device>(
     below: &mut D,
-    entries: &[Entry],
-    home: bool,
+    entries: &Pending,
+    area: Area,
 ) -> Result<(), DeviceFault>
-    requires { length entries.now ≤ 64 }
     ensures agrees { D.Device.agrees below.old → D.Device.agrees below.new }
-    ensures makes { D.Device.agrees below.old → (D.Device.meaning below.old).runs ≡ true → Makes D.Device.meaning (settling home entries.now) result below.old below.new }
-    ensures settled { D.Device.agrees below.old → Ready home entries.now (D.Device.meaning below.old) → SettledAll D.Device.agrees D.Device.meaning home entries.now below.old result below.new }
+    ensures makes { D.Device.agrees below.old → (D.Device.meaning below.old).runs ≡ true → Makes D.Device.meaning (settling area (waiting entries.now)) result below.old below.new }
+    ensures settled { D.Device.agrees below.old → Ready area (waiting entries.now) (D.Device.meaning below.old) → SettledAll D.Device.agrees D.Device.meaning area (waiting entries.now) below.old result below.new }
 {
-    write_entries(below, entries, home)?;
+    write_entries(below, entries, area)?;
     below.sync()
 }
 
 // The header, and a sync.
-fn set_header<D: Device>(below: &mut D, page: &[u8; 252]) -> Result<(), DeviceFault>
+fn set_header<D: Device>(below: &mut D, page: &Page) -> Result<(), DeviceFault>
     ensures agrees { D.Device.agrees below.old → D.Device.agrees below.new }
     ensures makes { D.Device.agrees below.old → (D.Device.meaning below.old).runs ≡ true → Makes D.Device.meaning (heading page.now) result below.old below.new }
     ensures set { D.Device.agrees below.old → HeadReady (D.Device.meaning below.old) → HeadSet D.Device.agrees D.Device.meaning page.now below.old result below.new }
@@ -72,24 +59,22 @@ pub(crate) fn clear<D: Device>(below: &mut D) -> Result<(), DeviceFault>
 }
 
 // Steps 3 and 4: the home pages, then a header that names none, each synced.
-pub(crate) fn finish<D: Device>(below: &mut D, entries: &[Entry]) -> Result<(), DeviceFault>
-    requires { length entries.now ≤ 64 }
+pub(crate) fn finish<D: Device>(below: &mut D, entries: &Pending) -> Result<(), DeviceFault>
     ensures agrees { D.Device.agrees below.old → D.Device.agrees below.new }
-    ensures makes { D.Device.agrees below.old → (D.Device.meaning below.old).runs ≡ true → Makes D.Device.meaning (step3 entries.now ++ step4) result below.old below.new }
-    ensures finished { D.Device.agrees below.old → (T : State → List ℕ) (base : ℕ → State) → LayReady T entries.now base (D.Device.meaning below.old) → Finished T entries.now base (D.Device.meaning below.old) result (D.Device.meaning below.new) }
+    ensures makes { D.Device.agrees below.old → (D.Device.meaning below.old).runs ≡ true → Makes D.Device.meaning (step3 (waiting entries.now) ++ step4) result below.old below.new }
+    ensures finished { D.Device.agrees below.old → (T : State → List ℕ) (base : ℕ → State) → LayReady T (waiting entries.now) base (D.Device.meaning below.old) → Finished T (waiting entries.now) base (D.Device.meaning below.old) result (D.Device.meaning below.new) }
 {
-    settle_entries(below, entries, true)?;
+    settle_entries(below, entries, Area::Home)?;
     clear(below)
 }
 
 // The four steps: the bodies, the header that names them, the home pages, and a header that names none, each synced.
-pub(crate) fn commit<D: Device>(below: &mut D, entries: &[Entry]) -> Result<(), DeviceFault>
-    requires { length entries.now ≤ 64 }
+pub(crate) fn commit<D: Device>(below: &mut D, entries: &Pending) -> Result<(), DeviceFault>
     ensures agrees { D.Device.agrees below.old → D.Device.agrees below.new }
-    ensures makes { D.Device.agrees below.old → (D.Device.meaning below.old).runs ≡ true → Makes D.Device.meaning (step1 entries.now ++ (step2 entries.now ++ (step3 entries.now ++ step4))) result below.old below.new }
-    ensures committed { D.Device.agrees below.old → (T : State → List ℕ) (base : ℕ → State) → CommitReady T entries.now base (D.Device.meaning below.old) → Committed T entries.now base (D.Device.meaning below.old) result (D.Device.meaning below.new) }
+    ensures makes { D.Device.agrees below.old → (D.Device.meaning below.old).runs ≡ true → Makes D.Device.meaning (step1 (waiting entries.now) ++ (step2 (waiting entries.now) ++ (step3 (waiting entries.now) ++ step4))) result below.old below.new }
+    ensures committed { D.Device.agrees below.old → (T : State → List ℕ) (base : ℕ → State) → CommitReady T (waiting entries.now) base (D.Device.meaning below.old) → Committed T (waiting entries.now) base (D.Device.meaning below.old) result (D.Device.meaning below.new) }
 {
-    settle_entries(below, entries, false)?;
+    settle_entries(below, entries, Area::Body)?;
     set_header(below, &header_of(entries))?;
     finish(below, entries)
 }

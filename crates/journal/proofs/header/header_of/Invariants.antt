@@ -5,4 +5,4 @@ use Rattle.journal.specs.Waiting.{pages}
 use Rattle.journal.proofs.header.header_of.Given as goal
 
 abbrev pub invariant-loop-e : goal.invariant-loop-e
-invariant-loop-e l = Enveloped l.page (two_bytes (pages (take l.e-index l.entries)))
+invariant-loop-e l = Enveloped l.page (two_bytes (pages (take l.e-index l.e-items)))

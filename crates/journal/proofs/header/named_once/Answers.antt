@@ -1,24 +1,29 @@
-use Rattle.std.proofs.Common.{◌≡◌, ℕ, ◌+◌, ◌-◌, Bool, true, false, not, ◌&&◌, ltb, List, length, get_or, take, drop, sym, refl, ap, ◌∙◌}
-use Rattle.std.proofs.lemmas.List.{at_drop_all, take_rest}
+use Rattle.std.proofs.Common.{◌≡◌, ℕ, ◌+◌, ◌-◌, Bool, eqb, List, length, get_or, take, drop, sym, ap, ◌∙◌, arith}
+use Rattle.std.specs.List.{list_any}
+use Rattle.std.proofs.lemmas.List.{take_rest}
 use Rattle.device.specs.Meaning.{has}
-use Rattle.journal.specs.Header.{once}
-use Rattle.journal.proofs.Parsing.{once_more, once_stop}
+use Rattle.journal.proofs.Parsing.{has_any, once_more, once_past, once_again}
 use Rattle.journal.proofs.header.named_once.Goals as goal
+use Rattle.journal.proofs.header.named_once.Goals.{then-from-count-via-then-from-count, then-from-count-via-else-from-count+then-contains}
 
-pub loop-i-init : goal.loop-i-init
-loop-i-init c = refl
+-- what `contains` answers, of the part of the slice that is left
+later : (xs : List ℕ) (i : ℕ) (r : Bool) → r ≡ list_any (λ y. eqb y (get_or xs i 0)) (take (length xs - (i + 1)) (drop (i + 1) xs)) → has (get_or xs i 0) (drop (i + 1) xs) ≡ r
+later xs i r e = sym (e ∙ ap (λ (l : List ℕ). list_any (λ y. eqb y (get_or xs i 0)) l) (take_rest xs (i + 1)) ∙ has_any (get_or xs i 0) (drop (i + 1) xs))
 
--- the test of one page, over the part of the slice that is left
-tested : (n : ℕ) (xs : List ℕ) (i : ℕ) (r b : Bool) → r ≡ b → r ≡ (ltb (get_or xs i 0) n && not (has (get_or xs i 0) (take (length xs - (i + 1)) (drop (i + 1) xs)))) → (ltb (get_or xs i 0) n && not (has (get_or xs i 0) (drop (i + 1) xs))) ≡ b
-tested n xs i r b e f = ap (λ (l : List ℕ). ltb (get_or xs i 0) n && not (has (get_or xs i 0) l)) (sym (take_rest xs (i + 1))) ∙ sym f ∙ e
+pub returns-then-from-count : goal.returns-then-from-count
+returns-then-from-count c =
+    let xs = c.args.pages.now in
+    let i = c.loop-i.i in
+    let p = c.from.ensures in
+    sym (c.loop-i.invariant ∙ elim c.then-from-count.branch [
+      | then-from-count-via-then-from-count w ↦ let q = w.if-from-count.true in once_past c.args.count xs i c.loop-i-test.true (omega arith)
+      | then-from-count-via-else-from-count+then-contains w ↦ once_again c.args.count xs i c.loop-i-test.true (later xs i w.contains.result w.contains.ensures.value ∙ w.if-contains.true)
+    ])
 
 pub loop-i-preserved : goal.loop-i-preserved
 loop-i-preserved c =
-    c.loop-i.invariant ∙ once_more c.args.count c.args.pages.now c.loop-i.i c.loop-i-test.true (tested c.args.count c.args.pages.now c.loop-i.i c.valid_target.result true c.if-not-valid_target.false c.valid_target.ensures)
-
-pub returns-then-not-valid_target : goal.returns-then-not-valid_target
-returns-then-not-valid_target c =
-    sym (c.loop-i.invariant ∙ once_stop c.args.count c.args.pages.now c.loop-i.i c.loop-i-test.true (tested c.args.count c.args.pages.now c.loop-i.i c.valid_target.result false c.if-not-valid_target.true c.valid_target.ensures))
-
-pub returns : goal.returns
-returns c = sym (c.loop-i.invariant ∙ at_drop_all (once c.args.count) c.args.pages.now c.loop-i.i c.loop-i-test.false)
+    let xs = c.args.pages.now in
+    let i = c.loop-i.i in
+    let p = c.from.ensures in
+    let q = c.if-from-count.false in
+    c.loop-i.invariant ∙ once_more c.args.count xs i c.loop-i-test.true (omega arith) (later xs i c.contains.result c.contains.ensures.value ∙ c.if-contains.false)

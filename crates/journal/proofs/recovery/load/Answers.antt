@@ -1,89 +1,109 @@
-use Rattle.std.proofs.Common.{◌≡◌, ℕ, ◌<◌, Bool, true, false, [], length, get_or, Ok, Err, sym, refl, subst, arith, rules}
+use Rattle.std.proofs.Common.{◌≡◌, ℕ, ◌+◌, ◌<◌, ◌≤◌, List, [], ◌∷◌, ◌++◌, length, get_or, Option, Ok, Err, sym, ap, ◌∙◌, subst, arith, rules}
+use Rattle.std.proofs.lemmas.List.{length_push}
 use Rattle.std.proofs.lemmas.Result.{err_from_is_err_and}
-use Rattle.journal.specs.Recovery.{Looked}
+use Rattle.journal.specs.declared.entries.Entry.{Entry}
+use Rattle.journal.specs.Waiting.{waiting}
+use Rattle.journal.specs.Recovery.{Looked, LoadedTo}
 use Rattle.journal.proofs.Sent.{made_none, and_then, made_still}
-use Rattle.journal.proofs.Looked.{loaded_none, body_within, loaded_more, load_broken, load_lost, loaded_all}
+use Rattle.journal.proofs.Looked.{loaded_none, body_looked, loaded_more, load_broken, load_lost}
 use Rattle.journal.proofs.recovery.load.Goals as goal
 
 pub loop-j-init : goal.loop-j-init
-loop-j-init g c = (λ h. h, λ h t. made_none g.D.Device.meaning c.args.below.now, λ h a. loaded_none c.args.pages.now (g.D.Device.meaning c.args.below.now) c.requires a c.args.into.now.entries)
+loop-j-init g c =
+    let ts = c.args.named.now.items in
+    let few : length ts ≤ 64 = subst (λ (l : List ℕ). length l ≤ 64) c.deref-page-items.ensures.0 c.deref-page-items.ensures.1 in
+    let m = g.D.Device.meaning c.args.below.now in (
+      λ h. h,
+      λ h t. made_none g.D.Device.meaning c.args.below.now,
+      λ h a. subst (λ (l : List Entry). LoadedTo ts 0 l m m) (sym c.new-group.ensures) (loaded_none ts m few a),
+      ap length c.new-group.ensures,
+    )
 
-pub returns-in_err-look : goal.returns-in_err-look
-returns-in_err-look g c =
+pub push-requires : goal.push-requires
+push-requires g c = let e = c.loop-j.invariant.3 in let l = c.loop-j-test.true in omega (arith, c.deref-page-items.ensures.1)
+
+pub returns-in_err-bytes : goal.returns-in_err-bytes
+returns-in_err-bytes g c =
     let p = err_from_is_err_and c.from_residual.result c.from_residual.ensures.1 in
-    let x = c.in_err-look.ensures in
+    let x = c.in_err-bytes.ensures in
     let i = c.loop-j.invariant in
     let meaning = g.D.Device.meaning in
     let a = c.args.below.now in
     let d = c.loop-j.below in
     let e = c.look.new.below in
-    let ts = c.args.pages.now in
+    let ts = c.args.named.now.items in
     let j = c.loop-j.j in
-    let es = c.loop-j.into.entries in
-    let lt : j < length ts = c.loop-j-test.true in
+    let few : length ts ≤ 64 = subst (λ (l : List ℕ). length l ≤ 64) c.deref-page-items.ensures.0 c.deref-page-items.ensures.1 in
+    let lt : j < length ts = subst (λ (l : List ℕ). j < length l) c.deref-page-items.ensures.0 c.loop-j-test.true in
     record {
       agrees = λ h. x.agrees (i.0 h);
-      makes = λ h t. rw (p.1, p.2) (and_then meaning [] [] (Err c.in_err-look.field-0.0) a d e (i.1 h t) (x.makes (i.0 h) (made_still meaning [] a d (i.1 h t) t)));
+      makes = λ h t. rw (p.1, p.2) (and_then meaning [] [] (Err c.in_err-bytes.field-0.0) a d e (i.1 h t) (x.makes (i.0 h) (made_still meaning [] a d (i.1 h t) t)));
       loaded = λ h aw. rw (p.1, p.2) (
           let l = i.2 h aw in
-          let y = x.looked (i.0 h) (subst (λ (p : ℕ). p < (meaning d).count) (sym c.body_page.ensures) (body_within ts (meaning a) c.requires aw (meaning d) j es l lt (meaning e))) in
-          (y.0, load_lost ts (meaning a) c.requires aw (meaning d) j es l lt (meaning e) y.1));
+          let y = body_looked ts (meaning a) few aw (meaning d) j _ l lt (meaning e) c.body_page.result (Err c.in_err-bytes.field-0.0) c.body_page.ensures (x.looked (i.0 h)) in
+          (y.0, load_lost ts (meaning a) few aw (meaning d) j _ l lt (meaning e) y.1));
     }
 
-pub returns-then-not-branch : goal.returns-then-not-branch
-returns-then-not-branch g c =
-    let x = c.in_ok-look.ensures in
+pub returns-in_default : goal.returns-in_default
+returns-in_default g c =
+    let x = c.in_ok-bytes.ensures in
     let i = c.loop-j.invariant in
     let meaning = g.D.Device.meaning in
     let a = c.args.below.now in
     let d = c.loop-j.below in
     let e = c.look.new.below in
-    let ts = c.args.pages.now in
+    let ts = c.args.named.now.items in
     let j = c.loop-j.j in
-    let es = c.loop-j.into.entries in
-    let lt : j < length ts = c.loop-j-test.true in
+    let few : length ts ≤ 64 = subst (λ (l : List ℕ). length l ≤ 64) c.deref-page-items.ensures.0 c.deref-page-items.ensures.1 in
+    let lt : j < length ts = subst (λ (l : List ℕ). j < length l) c.deref-page-items.ensures.0 c.loop-j-test.true in
     record {
       agrees = λ h. x.agrees (i.0 h);
       makes = λ h t. and_then meaning [] [] (Ok tt) a d e (i.1 h t) (x.makes (i.0 h) (made_still meaning [] a d (i.1 h t) t));
       loaded = λ h aw.
           let l = i.2 h aw in
-          load_broken ts (meaning a) c.requires aw (meaning d) j es l lt (meaning e)
-          (subst (λ (p : ℕ). Looked (meaning d) p (Ok false) c.look.new.buf (meaning e)) c.body_page.ensures (subst (λ (b : Bool). Looked (meaning d) c.body_page.result (Ok b) c.look.new.buf (meaning e)) c.if-not-branch.true
-          (x.looked (i.0 h) (subst (λ (p : ℕ). p < (meaning d).count) (sym c.body_page.ensures) (body_within ts (meaning a) c.requires aw (meaning d) j es l lt (meaning e))))));
+          load_broken ts (meaning a) few aw (meaning d) j _ l lt (meaning e)
+          (subst (λ (o : Option (List ℕ)). Looked (meaning d) (1 + j) (Ok o) (meaning e)) c.in_default.is
+          (body_looked ts (meaning a) few aw (meaning d) j _ l lt (meaning e) c.body_page.result (Ok c.in_ok-bytes.field-0) c.body_page.ensures (x.looked (i.0 h))));
     }
 
 pub loop-j-preserved : goal.loop-j-preserved
 loop-j-preserved g c =
-    let x = c.in_ok-look.ensures in
+    let x = c.in_ok-bytes.ensures in
     let i = c.loop-j.invariant in
     let meaning = g.D.Device.meaning in
     let a = c.args.below.now in
     let d = c.loop-j.below in
     let e = c.look.new.below in
-    let ts = c.args.pages.now in
+    let ts = c.args.named.now.items in
     let j = c.loop-j.j in
-    let es = c.loop-j.into.entries in
-    let lt : j < length ts = c.loop-j-test.true in
-    let len : length es ≡ 64 = search rules in
-    let size : length c.look.new.buf ≡ 252 = search rules in (
+    let bs = c.in-Some.bytes in
+    let items = c.deref-page-items.ensures.0 in
+    let few : length ts ≤ 64 = subst (λ (l : List ℕ). length l ≤ 64) items c.deref-page-items.ensures.1 in
+    let lt : j < length ts = subst (λ (l : List ℕ). j < length l) items c.loop-j-test.true in
+    let size : length bs ≡ 252 = search rules in
+    let pushed : waiting c.push.new.self ≡ waiting c.loop-j.group ++ (record { page = get_or ts j 0; bytes = bs }) ∷ [] =
+    c.push.ensures ∙ ap (λ (l : List ℕ). waiting c.loop-j.group ++ (record { page = get_or l j 0; bytes = bs }) ∷ []) items in (
       λ h. x.agrees (i.0 h),
       λ h t. and_then meaning [] [] (Ok tt) a d e (i.1 h t) (x.makes (i.0 h) (made_still meaning [] a d (i.1 h t) t)),
       λ h aw.
           let l = i.2 h aw in
-          loaded_more ts (meaning a) c.requires aw (meaning d) j es l lt (meaning e) (record { page = get_or ts j 0; bytes = c.look.new.buf }) len refl size
-          (subst (λ (p : ℕ). Looked (meaning d) p (Ok true) c.look.new.buf (meaning e)) c.body_page.ensures (subst (λ (b : Bool). Looked (meaning d) c.body_page.result (Ok b) c.look.new.buf (meaning e)) c.if-not-branch.false
-          (x.looked (i.0 h) (subst (λ (p : ℕ). p < (meaning d).count) (sym c.body_page.ensures) (body_within ts (meaning a) c.requires aw (meaning d) j es l lt (meaning e)))))),
+          subst (λ (es : List Entry). LoadedTo ts (j + 1) es (meaning a) (meaning e)) (sym pushed)
+          (loaded_more ts (meaning a) few aw (meaning d) j _ l lt (meaning e) bs size
+          (subst (λ (o : Option (List ℕ)). Looked (meaning d) (1 + j) (Ok o) (meaning e)) c.in-Some.is
+          (body_looked ts (meaning a) few aw (meaning d) j _ l lt (meaning e) c.body_page.result (Ok c.in_ok-bytes.field-0) c.body_page.ensures (x.looked (i.0 h))))),
+      ap length pushed ∙ length_push (waiting c.loop-j.group) _ ∙ ap (λ (n : ℕ). n + 1) i.3,
     )
 
 pub returns : goal.returns
 returns g c =
     let i = c.loop-j.invariant in
-    let ts = c.args.pages.now in
+    let ts = c.args.named.now.items in
+    let meaning = g.D.Device.meaning in
     let b = c.loop-j.auto.j-end in
     let l = c.loop-j-test.false in
-    let es = c.loop-j.into.entries in
+    let all : c.loop-j.j ≡ length ts = let z : c.loop-j.j ≡ length c.deref-page-items.result.now = omega arith in z ∙ ap length c.deref-page-items.ensures.0 in
     record {
       agrees = i.0;
       makes = i.1;
-      loaded = λ h aw. loaded_all ts (g.D.Device.meaning c.args.below.now) c.requires aw (g.D.Device.meaning c.loop-j.below) _ refl c.loop-j.j (omega arith) (i.2 h aw);
+      loaded = λ h aw. subst (λ (k : ℕ). LoadedTo ts k (waiting c.loop-j.group) (meaning c.args.below.now) (meaning c.loop-j.below)) all (i.2 h aw);
     }

@@ -1,4 +1,5 @@
-use Rattle.std.proofs.Common.{◌≡◌, true, [], Ok}
+use Rattle.std.proofs.Common.{◌≡◌, true, [], length, Ok}
+use Rattle.journal.specs.Waiting.{waiting}
 use Rattle.journal.specs.Sending.{Makes}
 use Rattle.journal.specs.Recovery.{Awake, LoadedTo}
 use Rattle.journal.proofs.recovery.load.Given as goal
@@ -7,4 +8,5 @@ abbrev pub invariant-loop-j : goal.invariant-loop-j
 invariant-loop-j g l =
     (g.D.Device.agrees l.initial.below → g.D.Device.agrees l.below)
     × (g.D.Device.agrees l.initial.below → (g.D.Device.meaning l.initial.below).runs ≡ true → Makes g.D.Device.meaning [] (Ok tt) l.initial.below l.below)
-    × (g.D.Device.agrees l.initial.below → Awake (g.D.Device.meaning l.initial.below) → LoadedTo l.pages l.j l.into.entries (g.D.Device.meaning l.initial.below) (g.D.Device.meaning l.below))
+    × (g.D.Device.agrees l.initial.below → Awake (g.D.Device.meaning l.initial.below) → LoadedTo l.named.items l.j (waiting l.group) (g.D.Device.meaning l.initial.below) (g.D.Device.meaning l.below))
+    × (length (waiting l.group) ≡ l.j)

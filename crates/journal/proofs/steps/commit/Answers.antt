@@ -1,5 +1,6 @@
 use Rattle.std.proofs.Common.{◌≡◌, ℕ, true, List, ◌++◌, Ok, Err, subst}
 use Rattle.std.proofs.lemmas.Result.{err_from_is_err_and}
+use Rattle.journal.specs.Waiting.{waiting}
 use Rattle.journal.specs.Sending.{heading, Makes, step1, step2, step3, step4}
 use Rattle.journal.specs.Writing.{HeadLost, HeadSet}
 use Rattle.journal.proofs.Sent.{stopped, and_then, made_still}
@@ -11,7 +12,7 @@ returns-in_err-settle_entries g c =
     let p = err_from_is_err_and c.from_residual.result c.from_residual.ensures.1 in
     let s = c.in_err-settle_entries.ensures in
     let meaning = g.D.Device.meaning in
-    let es = c.args.entries.now in
+    let es = waiting c.args.entries.now in
     let a = c.args.below.now in
     let d = c.settle_entries.new.below in
     record {
@@ -27,7 +28,7 @@ returns-in_err-set_header g c =
     let k = c.in_err-set_header.ensures in
     let meaning = g.D.Device.meaning in
     let sound = g.D.Device.sound in
-    let es = c.args.entries.now in
+    let es = waiting c.args.entries.now in
     let a = c.args.below.now in
     let o = c.settle_entries.new.below in
     let e = c.set_header.new.below in
@@ -53,7 +54,7 @@ returns g c =
     let z = c.finish.ensures in
     let meaning = g.D.Device.meaning in
     let sound = g.D.Device.sound in
-    let es = c.args.entries.now in
+    let es = waiting c.args.entries.now in
     let a = c.args.below.now in
     let o = c.settle_entries.new.below in
     let t = c.set_header.new.below in

@@ -1,4 +1,5 @@
 use Rattle.std.proofs.lemmas.Result.{err_from_is_err_and}
+use Rattle.journal.specs.Waiting.{waiting}
 use Rattle.journal.specs.Sending.{step3, step4}
 use Rattle.journal.proofs.Sent.{stopped, and_then, made_still}
 use Rattle.journal.proofs.Finish.{lay_lost, clear_ready, laid_and_cleared}
@@ -9,7 +10,7 @@ returns-in_err-settle_entries g c =
     let p = err_from_is_err_and c.from_residual.result c.from_residual.ensures.1 in
     let s = c.in_err-settle_entries.ensures in
     let meaning = g.D.Device.meaning in
-    let es = c.args.entries.now in
+    let es = waiting c.args.entries.now in
     let a = c.args.below.now in
     let d = c.settle_entries.new.below in
     record {
@@ -24,7 +25,7 @@ returns g c =
     let k = c.clear.ensures in
     let meaning = g.D.Device.meaning in
     let sound = g.D.Device.sound in
-    let es = c.args.entries.now in
+    let es = waiting c.args.entries.now in
     let a = c.args.below.now in
     let o = c.settle_entries.new.below in
     let e = c.clear.new.below in

@@ -6,5 +6,5 @@ use Rattle.journal.proofs.steps.write_entries.Given as goal
 abbrev pub invariant-loop-j : goal.invariant-loop-j
 invariant-loop-j g l =
     (g.D.Device.agrees l.initial.below → g.D.Device.agrees l.below)
-    × (g.D.Device.agrees l.initial.below → (g.D.Device.meaning l.initial.below).runs ≡ true → Makes g.D.Device.meaning (placed l.home 0 (take l.j l.entries)) (Ok tt) l.initial.below l.below)
-    × (g.D.Device.agrees l.initial.below → Ready l.home l.entries (g.D.Device.meaning l.initial.below) → Wrote l.home l.entries l.j (g.D.Device.meaning l.initial.below) (g.D.Device.meaning l.below))
+    × (g.D.Device.agrees l.initial.below → (g.D.Device.meaning l.initial.below).runs ≡ true → Makes g.D.Device.meaning (placed l.area 0 (take l.j l.e-items)) (Ok tt) l.initial.below l.below)
+    × (g.D.Device.agrees l.initial.below → Ready l.area l.e-items (g.D.Device.meaning l.initial.below) → Wrote l.area l.e-items l.j (g.D.Device.meaning l.initial.below) (g.D.Device.meaning l.below))

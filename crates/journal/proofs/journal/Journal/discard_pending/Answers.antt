@@ -1,12 +1,14 @@
+use Rattle.std.proofs.lemmas.Result.{err_from_is_err_and}
 use Rattle.journal.proofs.Layer.{down_discard, discarded}
 use Rattle.journal.proofs.journal.Journal.discard_pending.Goals as goal
 
-pub returns-then-not-self : goal.returns-then-not-self
-returns-then-not-self g c =
-    let x = down_discard g.D.Device.agrees g.D.Device.meaning g.D.Device.sound c.args.self.now c.if-not-self.true in
-    record { does = x.0; calls = x.1; sends = x.2 }
+pub returns-in_err-running-clause-does : goal.returns-in_err-running-clause-does
+returns-in_err-running-clause-does g c =
+    let p = err_from_is_err_and c.from_residual.result c.from_residual.ensures.1 in
+    let d = c.in_err-running.ensures in
+    rw (p.1, p.2, d.1) (down_discard g.D.Device.agrees g.D.Device.meaning g.D.Device.sound c.args.self.now d.0).0
 
 pub returns : goal.returns
 returns g c =
-    let x = discarded g.D.Device.agrees g.D.Device.meaning g.D.Device.sound c.args.self.now c.if-not-self.false c.clear.new.self c.clear.ensures in
+    let x = discarded g.D.Device.agrees g.D.Device.meaning g.D.Device.sound c.args.self.now c.in_ok-running.ensures c.clear.new.self c.clear.ensures in
     record { does = x.0; calls = x.1; sends = x.2 }
