@@ -1,4 +1,6 @@
 // The images of a disk, and what becomes of the pages that are not settled.
+#![tactic(auto, unfolding(crate::specs::Image::count_of))]
+
 ghost use Rattle.std.specs.Prelude.{◌≡◌, ◌<◌, length, slice_set, MatchOption};
 ghost use Rattle.device.specs.Meaning.{bytes, spoiled};
 ghost use Rattle.disk.specs.Arm.{byte_of, bytes_of};
@@ -41,7 +43,6 @@ impl<'a> Images<'a> {
     }
 
     /// How many whole pages there are in all three, at most 131,072.
-    #[tactic(auto, unfolding(crate::specs::Image::count_of))]
     pub(crate) fn count(&self) -> usize
         ensures { result ≡ pages self.now }
     {
@@ -50,7 +51,6 @@ impl<'a> Images<'a> {
     }
 
     /// Clears the marks: what was written and not settled is dropped.
-    #[tactic(auto, unfolding(crate::specs::Image::count_of))]
     pub(crate) fn clear(&mut self)
         ensures settled { self.new.settled.now ≡ self.old.settled.now }
         ensures written { self.new.written.now ≡ self.old.written.now }
@@ -61,7 +61,6 @@ impl<'a> Images<'a> {
     }
 
     /// The page that page `i` shows; none where it is spoiled.
-    #[tactic(auto, unfolding(crate::specs::Image::count_of))]
     pub(crate) fn page(&self, i: usize) -> Option<&[u8]>
         requires { i < pages self.now }
         ensures { let shown = decode (current self.now.settled.now self.now.written.now self.now.marks.now i) in MatchOption result (shown ≡ spoiled) (λ p. shown ≡ bytes p.now) }
@@ -75,7 +74,6 @@ impl<'a> Images<'a> {
     }
 
     /// Writes page `i`, and marks it.
-    #[tactic(auto, unfolding(crate::specs::Image::count_of))]
     pub(crate) fn store(&mut self, i: usize, page: &[u8])
         requires within { i < pages self.old }
         requires size { length page.now ≡ 252 }
@@ -89,7 +87,6 @@ impl<'a> Images<'a> {
     }
 
     /// Settles all pages: each unsettled one is left as a letter says, in ascending order, and the letters are repeated.
-    #[tactic(auto, unfolding(crate::specs::Image::count_of))]
     pub(crate) fn settle(&mut self, letters: &[Letter], kept: u8)
         requires { 0 < length letters.now }
         ensures pages { CutTo self.old.settled.now self.old.written.now self.old.marks.now (bytes_of letters.now) kept self.new.settled.now self.new.marks.now }
@@ -105,7 +102,6 @@ impl<'a> Images<'a> {
     }
 
     // Settles page `i` as its letter says.
-    #[tactic(auto, unfolding(crate::specs::Image::count_of))]
     fn leave(&mut self, i: usize, letter: Letter, kept: u8)
         requires { i < pages self.old }
         ensures settled { self.new.settled.now ≡ put_raw self.old.settled.now i (chosen (byte_of letter) kept (raw self.old.settled.now i) (raw self.old.written.now i)) }
@@ -119,7 +115,6 @@ impl<'a> Images<'a> {
     }
 
     // What is left of page `i` by its letter.
-    #[tactic(auto, unfolding(crate::specs::Image::count_of))]
     fn left(&self, i: usize, letter: Letter, kept: u8) -> [u8; RAW_SIZE]
         requires { i < pages self.now }
         ensures { result ≡ chosen (byte_of letter) kept (raw self.now.settled.now i) (raw self.now.written.now i) }
