@@ -8,7 +8,7 @@ use Rattle.device.specs.GroupPromises.{Settles, Restores, Discard}
 use Rattle.device.specs.Calls.{Answer, Call, reads, writes, syncs, restarts, discards, GroupStep, always, lost}
 use Rattle.device.proofs.Whens.{when_true}
 use Rattle.cache.specs.declared.memory.Memory.{Memory}
-use Rattle.cache.specs.Keeping.{under, Agrees, Forgot, After}
+use Rattle.cache.specs.Keeping.{up, under, Agrees, Forgot, After}
 use Rattle.cache.proofs.Layer.{when_yes, under_lost, under_ran, step_under, agrees_after, empty_agrees}
 
 -- a sound group above is sound below, where both run, and the other way round
@@ -36,26 +36,26 @@ restores_under up up' m n g h (Err e) l = l
 
 -- a call that goes below
 module _ (s s' : Memory) (m n : Meaning) (g h : Grouped) where
-  forgot_down : (e : DeviceFault) → number e ≡ 11 → Forgot s (Err e) s' → s'.up ≡ false
-  forgot_down e x a = a.up ∙ cond-true (lost (Err e)) false s.up (eq-eqb (number e) 11 x)
+  forgot_down : (e : DeviceFault) → number e ≡ 11 → Forgot s (Err e) s' → up s' ≡ false
+  forgot_down e x a = a.up ∙ cond-true (lost (Err e)) false (up s) (eq-eqb (number e) 11 x)
 
-  discard_under : (r : Answer) → s.up ≡ true → Discard m g r n h → Forgot s r s' → Discard (under s.up m) g r (under s'.up n) h
-  discard_under (Ok _) t d a = record { running = t; ran = under_ran s.up s'.up m n (a.up ∙ t) d.ran; shown = d.shown; base = d.base; fates = d.fates; waits = d.waits }
-  discard_under (Err e) t d a = (d.0, under_lost s.up s'.up m n (forgot_down e d.0 a) d.1, d.2)
+  discard_under : (r : Answer) → up s ≡ true → Discard m g r n h → Forgot s r s' → Discard (under (up s) m) g r (under (up s') n) h
+  discard_under (Ok _) t d a = record { running = t; ran = under_ran (up s) (up s') m n (a.up ∙ t) d.ran; shown = d.shown; base = d.base; fates = d.fates; waits = d.waits }
+  discard_under (Err e) t d a = (d.0, under_lost (up s) (up s') m n (forgot_down e d.0 a) d.1, d.2)
 
   discard_agrees : (r : Answer) → Discard m g r n h → Forgot s r s' → Agrees s' n
   discard_agrees (Ok _) d a = empty_agrees s' n (λ _. d.ran.still) a.empty
-  discard_agrees (Err e) d a = empty_agrees s' n (λ t. absurd (both_ways s'.up (forgot_down e d.0 a) t)) a.empty
+  discard_agrees (Err e) d a = empty_agrees s' n (λ t. absurd (both_ways (up s') (forgot_down e d.0 a) t)) a.empty
 
   module _ (b : Agrees s m) (r : Answer) where
-    pub group_under : (k : Call) → (always k || s.up) ≡ true → GroupStep k m g r n h → After k s r s' → GroupStep k (under s.up m) g r (under s'.up n) h
+    pub group_under : (k : Call) → (always k || up s) ≡ true → GroupStep k m g r n h → After k s r s' → GroupStep k (under (up s) m) g r (under (up s') n) h
     group_under (reads p buf buf') t d a = (step_under s s' m n (reads p buf buf') r t d.0 a, d.1)
     group_under (writes p buf) t d a = (step_under s s' m n (writes p buf) r t d.0 a, d.1)
-    group_under syncs t d a = (step_under s s' m n syncs r t d.0 a, settles_under s.up m g h r t (b.below t) d.1)
-    group_under restarts t d a = (step_under s s' m n restarts r t d.0 a, restores_under s.up s'.up m n g h r d.1)
+    group_under syncs t d a = (step_under s s' m n syncs r t d.0 a, settles_under (up s) m g h r t (b.below t) d.1)
+    group_under restarts t d a = (step_under s s' m n restarts r t d.0 a, restores_under (up s) (up s') m n g h r d.1)
     group_under discards t d a = discard_under r t d a
 
-    pub group_agrees : (k : Call) → (always k || s.up) ≡ true → GroupStep k m g r n h → After k s r s' → Agrees s' n
+    pub group_agrees : (k : Call) → (always k || up s) ≡ true → GroupStep k m g r n h → After k s r s' → Agrees s' n
     group_agrees (reads p buf buf') t d a = agrees_after s s' m n b (reads p buf buf') r t d.0 a
     group_agrees (writes p buf) t d a = agrees_after s s' m n b (writes p buf) r t d.0 a
     group_agrees syncs t d a = agrees_after s s' m n b syncs r t d.0 a

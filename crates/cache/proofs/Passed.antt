@@ -17,10 +17,10 @@ use Rattle.cache.specs.declared.cache.Cache.{Cache}
 use Rattle.cache.specs.declared.memory.Memory.{Memory}
 use Rattle.cache.specs.Slots.{At, Absent}
 use Rattle.cache.specs.Order.{kept}
-use Rattle.cache.specs.Keeping.{After}
+use Rattle.cache.specs.Keeping.{up, table_of, After}
 use Rattle.cache.specs.Over.{cached, Agreeing, Doing, GroupDoing, Calling, GroupCalling, Keeping, Resting}
 use Rattle.cache.proofs.OrderLaws.{at_kept, absent_kept}
-use Rattle.cache.proofs.Layer.{step_under, agrees_after, empty_kept, kept_after}
+use Rattle.cache.proofs.Layer.{step_under, agrees_after, down_empty, empty_kept, kept_after}
 use Rattle.cache.proofs.Group.{group_under, group_agrees, sound_under}
 
 -- a call that the cache passes on is one that it may make
@@ -40,12 +40,12 @@ module _ {X : Type 0} (agrees : X → Type 0) (meaning : X → Meaning) (c : Cac
   GroupAll grouped k r c' = GroupDoing agrees meaning grouped k c r c' × GroupCalling agrees meaning grouped k c r c' × Keeping agrees meaning k c r c'
 
   -- the cache passes the call k on, which leaves x below and is answered r; its memory is then s
-  module _ (k : Call) (r : Answer) (x : X) (s : Memory) (go : (always k || c.memory.up) ≡ true) (told : After k c.memory r s) where
+  module _ (k : Call) (r : Answer) (x : X) (s : Memory) (go : (always k || up c.memory) ≡ true) (told : After k c.memory r s) where
     abbrev then : Cache X
     then = record { below = x; memory = s }
 
-    chained : (step : Call → X → Answer → X → Type 0) → Agreeing agrees meaning c → step k c.below r x → Over (Calls (λ v. (meaning v).runs) step) k c.memory.up c.below r x
-    chained step h y = when_true (always k || c.memory.up) _ _ go (one k r x (allowed k c.memory.up (meaning c.below).runs go h.1.below) y)
+    chained : (step : Call → X → Answer → X → Type 0) → Agreeing agrees meaning c → step k c.below r x → Over (Calls (λ v. (meaning v).runs) step) k (up c.memory) c.below r x
+    chained step h y = when_true (always k || (up c.memory)) _ _ go (one k r x (allowed k (up c.memory) (meaning c.below).runs go h.1.below) y)
 
     keeping : Keeping agrees meaning k c r then
     keeping h = kept_after c.memory s (meaning c.below) h.1 k r told
@@ -68,28 +68,28 @@ module _ {X : Type 0} (agrees : X → Type 0) (meaning : X → Meaning) (c : Cac
           record {
             agrees = (y.agrees, w);
             means = group_under c.memory s (meaning c.below) (meaning x) (grouped c.below) (grouped x) h.1 r k go y.means told;
-            sound = sound_under k c.memory.up s.up (meaning c.below) (meaning x) (grouped c.below) (grouped x) go w.below y.sound;
+            sound = sound_under k (up c.memory) (up s) (meaning c.below) (meaning x) (grouped c.below) (grouped x) go w.below y.sound;
           },
       λ h. chained _ h (d h.0).means,
       keeping,
     )
 
   -- a cache that is down keeps nothing
-  down_kept : Agreeing agrees meaning c → c.memory.up ≡ false → kept c.memory.table ≡ []
-  down_kept h d = empty_kept c.memory.table (h.1.none d)
+  down_kept : up c.memory ≡ false → kept (table_of c.memory) ≡ []
+  down_kept d = empty_kept (table_of c.memory) (down_empty c.memory d)
 
-  refused_kept : (count p len : ℕ) (e : DeviceFault) → Refuses count p len c.memory.up (number e) → Agreeing agrees meaning c → kept c.memory.table ≡ cond (lost (Err e)) [] (kept c.memory.table)
+  refused_kept : (count p len : ℕ) (e : DeviceFault) → Refuses count p len (up c.memory) (number e) → Agreeing agrees meaning c → kept (table_of c.memory) ≡ cond (lost (Err e)) [] (kept (table_of c.memory))
   refused_kept count p len NoSuchPage a h = refl
   refused_kept count p len BufferSize a h = refl
-  refused_kept count p len PowerLost a h = down_kept h a.2
+  refused_kept count p len PowerLost a h = down_kept a.2
   refused_kept count p len PageSpoiled a h = absurd a
   refused_kept count p len TooManyWaiting a h = absurd a
 
   module _ (count p : ℕ) (buf : List ℕ) (is : count ≡ (meaning c.below).count) where
     -- the checks refuse a read or a write, and nothing changes
-    module _ (e : DeviceFault) (gate : Refuses count p (length buf) c.memory.up (number e)) where
-      abbrev uncalled : (step : Call → X → Answer → X → Type 0) → Over (Calls (λ v. (meaning v).runs) step) (writes p buf) c.memory.up c.below (Err e) c.below
-      uncalled step = gate_calls (λ v. (meaning v).runs) step count p (length buf) c.memory.up c.below e gate
+    module _ (e : DeviceFault) (gate : Refuses count p (length buf) (up c.memory) (number e)) where
+      abbrev uncalled : (step : Call → X → Answer → X → Type 0) → Over (Calls (λ v. (meaning v).runs) step) (writes p buf) (up c.memory) c.below (Err e) c.below
+      uncalled step = gate_calls (λ v. (meaning v).runs) step count p (length buf) (up c.memory) c.below e gate
 
       pub refused_read : All (reads p buf buf) (Err e) c
       refused_read = (λ h. record { agrees = h; means = gate_read count p buf (cached meaning c) is e gate }, λ h. uncalled _, refused_kept count p (length buf) e gate)
@@ -113,46 +113,46 @@ module _ {X : Type 0} (agrees : X → Type 0) (meaning : X → Meaning) (c : Cac
         )
 
     -- a kept page is read with no call below
-    module _ (within : p < count) (size : length buf ≡ 252) (t : c.memory.up ≡ true) (i : ℕ) (bs : List ℕ) (at : At c.memory.table.slots i p bs) where
+    module _ (within : p < count) (size : length buf ≡ 252) (t : up c.memory ≡ true) (i : ℕ) (bs : List ℕ) (at : At (table_of c.memory).slots i p bs) where
       kept_means : Agreeing agrees meaning c → Read (cached meaning c) p buf (Ok tt) bs (cached meaning c)
       kept_means h = record { passes = record { within = omega arith; size = size }; running = t; value = h.1.faithful.shows i p bs at; same = same_self (cached meaning c) }
 
       kept_stays : Keeping agrees meaning (reads p buf bs) c (Ok tt) c
-      kept_stays h = sym (cond-true (has p (kept c.memory.table)) _ _ (at_kept c.memory.table i p bs at))
+      kept_stays h = sym (cond-true (has p (kept (table_of c.memory))) _ _ (at_kept (table_of c.memory) i p bs at))
 
       pub kept_read : All (reads p buf bs) (Ok tt) c
-      kept_read = (λ h. record { agrees = h; means = kept_means h }, λ h. either_way c.memory.up _ _ none refl, kept_stays)
+      kept_read = (λ h. record { agrees = h; means = kept_means h }, λ h. either_way (up c.memory) _ _ none refl, kept_stays)
 
       pub group_kept_read : (grouped : X → Grouped) → GroupAll grouped (reads p buf bs) (Ok tt) c
-      group_kept_read grouped = (λ h. record { agrees = h; means = (kept_means h, λ j q. refl); sound = λ s. s }, λ h. either_way c.memory.up _ _ none refl, kept_stays)
+      group_kept_read grouped = (λ h. record { agrees = h; means = (kept_means h, λ j q. refl); sound = λ s. s }, λ h. either_way (up c.memory) _ _ none refl, kept_stays)
 
   -- a cache that is as it was, and one that does not keep the page
   pub same_still : (p : ℕ) → Resting agrees meaning p c c
   same_still p h k = refl
 
-  pub absent_still : (p : ℕ) (c' : Cache X) → Absent c.memory.table.slots p → Resting agrees meaning p c c'
-  absent_still p c' a h k = absurd (both_ways (has p (kept c.memory.table)) (absent_kept c.memory.table p h.1.size a) k)
+  pub absent_still : (p : ℕ) (c' : Cache X) → Absent (table_of c.memory).slots p → Resting agrees meaning p c c'
+  absent_still p c' a h k = absurd (both_ways (has p (kept (table_of c.memory))) (absent_kept (table_of c.memory) p h.1.size a) k)
 
   -- a cache that is down refuses a sync and a discard
-  module _ (e : DeviceFault) (d : c.memory.up ≡ false) (is : number e ≡ 11) where
+  module _ (e : DeviceFault) (d : up c.memory ≡ false) (is : number e ≡ 11) where
     pub down_sync : All syncs (Err e) c
     down_sync = (
       λ h. record { agrees = h; means = (is, lost_self (cached meaning c) d) },
-      λ h. when_false c.memory.up _ _ d refl,
-      λ h. down_kept h d ∙ sym (cond-true (lost (Err e)) [] _ (eq-eqb (number e) 11 is)),
+      λ h. when_false (up c.memory) _ _ d refl,
+      λ h. down_kept d ∙ sym (cond-true (lost (Err e)) [] _ (eq-eqb (number e) 11 is)),
     )
 
     module _ (grouped : X → Grouped) where
       pub group_down_sync : GroupAll grouped syncs (Err e) c
       group_down_sync = (
-        λ h. record { agrees = h; means = ((is, lost_self (cached meaning c) d), when_false c.memory.up _ _ d (no_end_self (meaning c.below).count (grouped c.below))); sound = λ s. s },
-        λ h. when_false c.memory.up _ _ d refl,
+        λ h. record { agrees = h; means = ((is, lost_self (cached meaning c) d), when_false (up c.memory) _ _ d (no_end_self (meaning c.below).count (grouped c.below))); sound = λ s. s },
+        λ h. when_false (up c.memory) _ _ d refl,
         down_sync.2,
       )
 
       pub down_discard : GroupAll grouped discards (Err e) c
       down_discard = (
         λ h. record { agrees = h; means = (is, lost_self (cached meaning c) d, no_end_self (meaning c.below).count (grouped c.below)); sound = λ s. s },
-        λ h. when_false c.memory.up _ _ d refl,
-        λ h. down_kept h d,
+        λ h. when_false (up c.memory) _ _ d refl,
+        λ h. down_kept d,
       )

@@ -1,15 +1,39 @@
 -- What a table keeps once a page is put into one of its slots.
-use Rattle.std.proofs.Common.{◌≡◌, ℕ, ◌<◌, ◌≢◌, ◌⊎◌, List, length, get_or, set, Some, None, Option, sym, ap, ◌∙◌, subst, inl, inr, ⊎_elim, arith, get_or-set_other, get_or-set_same}
-use Rattle.std.proofs.lemmas.Bool.{cases_eq}
+use Rattle.std.proofs.Common.{◌≡◌, ℕ, ◌<◌, ◌≤◌, true, false, ◌≢◌, ◌⊎◌, List, length, get_or, set, Some, None, Option, sym, refl, ap, ◌∙◌, subst, inl, inr, ⊎_elim, arith, get_or-set_other, get_or-set_same}
+use Rattle.std.specs.List.{position, position_or_len}
+use Rattle.std.proofs.lemmas.Bool.{both_ways, cases_eq, eq-eqb, eqb-true}
+use Rattle.std.proofs.lemmas.Grind.{common_steps}
+use Rattle.std.proofs.lemmas.List.Quantifiers.{position-Some}
+use Rattle.std.proofs.lemmas.List.Sums.{fails_before_first}
 use Rattle.cache.specs.declared.table.Kept.{Kept}
 use Rattle.cache.specs.declared.table.Table.{Table}
-use Rattle.cache.specs.Slots.{At, Placed, stays, fills, ousts}
+use Rattle.cache.specs.Slots.{Slots, keeps_page, At, Absent, Placed, stays, fills, ousts}
 
 pub some_page : (s : Option Kept) (k k' : Kept) → s ≡ Some k → s ≡ Some k' → k.page ≡ k'.page
 some_page s k k' p q = let e : k ≡ k' = cc in ap (λ (x : Kept). x.page) e
 
-some_bytes : (s : Option Kept) (k k' : Kept) → s ≡ Some k → s ≡ Some k' → k.bytes ≡ k'.bytes
+pub some_bytes : (s : Option Kept) (k k' : Kept) → s ≡ Some k → s ≡ Some k' → k.bytes ≡ k'.bytes
 some_bytes s k k' p q = let e : k ≡ k' = cc in ap (λ (x : Kept). x.bytes) e
+
+pub some_none : (s : Option Kept) (k : Kept) → s ≡ Some k → None ≡ s → ⊥
+some_none s k p q = cc
+
+keeps_some : (o : Option Kept) (p : ℕ) → keeps_page p o ≡ true → (bs : List ℕ) × (o ≡ Some (record { page = p; bytes = bs }))
+keeps_some None p e = absurd (both_ways false refl e)
+keeps_some (Some k) p e = (k.bytes, ap (λ (q : ℕ). Some (record { page = q; bytes = k.bytes })) (eqb-true _ _ e))
+
+-- the slot that a search for page p gives keeps it, and where it gives none no slot does
+module _ (s : Slots) (p : ℕ) (len : length s ≡ 8) where
+  pub found : (i : ℕ) → Some i ≡ position (keeps_page p) s → (bs : List ℕ) × At s i p bs
+  found i e =
+      let h = position-Some (keeps_page p) s i None (sym e) in
+      let k = keeps_some (get_or s i None) p h.1 in
+      (k.0, record { within = omega arith; holds = k.1 })
+
+  pub not_found : None ≡ position (keeps_page p) s → Absent s p
+  not_found e i bs a =
+      let far : length s ≤ position_or_len (keeps_page p) s = grind (arith, common_steps) in
+      both_ways (keeps_page p (get_or s i None)) (fails_before_first (keeps_page p) s i None (omega (arith, a.within))) (ap (keeps_page p) a.holds ∙ eq-eqb p p refl)
 
 module _ (t : Table) (p i n : ℕ) where
   placed_within : Placed t p i n → i < 8

@@ -1,11 +1,20 @@
 -- What a cache means by the device below it, when it agrees with that device, and what an answer from there makes of its memory.
-use Rattle.std.specs.Prelude.{◌≡◌, ℕ, ◌<◌, Bool, true, false, cond, ◌⊎◌, List, ◌++◌, map, length, replicate, is_ok, Some, None, Err, MatchBool, MatchResult}
+use Rattle.std.specs.Prelude.{◌≡◌, ℕ, ◌<◌, Bool, true, false, cond, ◌⊎◌, List, ◌++◌, map, length, replicate, is_ok, is_some, Some, None, Err, MatchBool, MatchResult}
+use Rattle.std.specs.Option.{unwrap_or}
 use Rattle.device.specs.Meaning.{bytes, Meaning, Sound}
 use Rattle.device.specs.Calls.{Answer, Call, reads, writes, syncs, restarts, discards, lost}
 use Rattle.cache.specs.declared.table.Table.{Table}
 use Rattle.cache.specs.declared.memory.Memory.{Memory}
-use Rattle.cache.specs.Slots.{Slots, At, Empty, Keeps}
+use Rattle.cache.specs.Slots.{Slots, At, Empty, Keeps, no_page}
 use Rattle.cache.specs.Order.{paged}
+
+-- a cache runs while it has a table
+abbrev pub up : Memory → Bool
+up s = is_some s.table
+
+-- the pages that it keeps; while it is down it keeps none
+abbrev pub table_of : Memory → Table
+table_of s = unwrap_or s.table no_page
 
 -- the meaning below, but that the layer runs only once it is itself restarted
 abbrev pub under : Bool → Meaning → Meaning
@@ -26,16 +35,15 @@ pub record Ordered (t : Table) : Type 0 where
 
 -- down, and nothing is kept
 pub record Fresh (s : Memory) : Type 0 where
-  pub down : s.up ≡ false
-  pub empty : Empty s.table
+  pub down : up s ≡ false
+  pub empty : Empty (table_of s)
 
--- a cache agrees with the device below: while it runs so does that device, and while it is down it keeps nothing
+-- a cache agrees with the device below: while it runs so does that device
 pub record Agrees (s : Memory) (m : Meaning) : Type 0 where
-  pub below : s.up ≡ true → m.runs ≡ true
-  pub none : s.up ≡ false → Empty s.table
-  pub size : length s.table.slots ≡ 8
-  pub ordered : Ordered s.table
-  pub faithful : Faithful s.table.slots m
+  pub below : up s ≡ true → m.runs ≡ true
+  pub size : length (table_of s).slots ≡ 8
+  pub ordered : Ordered (table_of s)
+  pub faithful : Faithful (table_of s).slots m
 
 pub under_sound : (up : Bool) (m : Meaning) → (up ≡ true → m.runs ≡ true) → Sound m → Sound (under up m)
 under_sound up m b s = record {
@@ -53,17 +61,17 @@ Heard s r s' = MatchBool (lost r) (Fresh s') (s' ≡ s)
 
 -- after a read or a write of page p, which now has these bytes: it is kept where the call was accepted
 abbrev pub Noted : ℕ → List ℕ → Memory → Answer → Memory → Type 0
-Noted p bs s r s' = MatchResult r (λ _. (s'.up ≡ s.up) × Keeps s.table p bs s'.table) (λ e. Heard s (Err e) s')
+Noted p bs s r s' = MatchResult r (λ _. (up s' ≡ (up s)) × Keeps (table_of s) p bs (table_of s')) (λ e. Heard s (Err e) s')
 
 -- after a restart: nothing is kept, and the cache runs where it was accepted
 pub record Revived (r : Answer) (s' : Memory) : Type 0 where
-  pub up : s'.up ≡ is_ok r
-  pub empty : Empty s'.table
+  pub up : up s' ≡ is_ok r
+  pub empty : Empty (table_of s')
 
 -- after a discard: nothing is kept, and 11 takes the cache down
 pub record Forgot (s : Memory) (r : Answer) (s' : Memory) : Type 0 where
-  pub up : s'.up ≡ cond (lost r) false s.up
-  pub empty : Empty s'.table
+  pub up : up s' ≡ cond (lost r) false (up s)
+  pub empty : Empty (table_of s')
 
 -- after a call that went below
 abbrev pub After : Call → Memory → Answer → Memory → Type 0

@@ -5,11 +5,11 @@ use Rattle.device.specs.Calls.{Answer, Call, DeviceCalls, GroupCalls, Over}
 use Rattle.device.specs.Clauses.{Does, GroupDoes}
 use Rattle.cache.specs.declared.cache.Cache.{Cache}
 use Rattle.cache.specs.Order.{kept, keeps}
-use Rattle.cache.specs.Keeping.{under, Agrees}
+use Rattle.cache.specs.Keeping.{up, table_of, under, Agrees}
 
 -- what it means
 abbrev pub cached : {X : Type 0} → (X → Meaning) → Cache X → Meaning
-cached meaning c = under c.memory.up (meaning c.below)
+cached meaning c = under (up c.memory) (meaning c.below)
 
 -- the device below agrees with whatever stands below it, and the cache with that device
 abbrev pub Agreeing : {X : Type 0} → (X → Type 0) → (X → Meaning) → Cache X → Type 0
@@ -17,7 +17,7 @@ Agreeing agrees meaning c = agrees c.below × Agrees c.memory (meaning c.below)
 
 -- the pages that it keeps, oldest first
 abbrev pub kept_by : {X : Type 0} → Cache X → List ℕ
-kept_by c = kept c.memory.table
+kept_by c = kept (table_of c.memory)
 
 -- what the call does
 abbrev pub Doing : {X : Type 0} → (X → Type 0) → (X → Meaning) → Call → Cache X → Answer → Cache X → Type 0
@@ -29,10 +29,10 @@ GroupDoing agrees meaning grouped = GroupDoes (Agreeing agrees meaning) (cached 
 
 -- which calls it makes below, and that it answers 11 exactly if one of them was answered so, or while it is down
 abbrev pub Calling : {X : Type 0} → (X → Type 0) → (X → Meaning) → Call → Cache X → Answer → Cache X → Type 0
-Calling agrees meaning k c r c' = Agreeing agrees meaning c → Over (DeviceCalls meaning) k c.memory.up c.below r c'.below
+Calling agrees meaning k c r c' = Agreeing agrees meaning c → Over (DeviceCalls meaning) k (up c.memory) c.below r c'.below
 
 abbrev pub GroupCalling : {X : Type 0} → (X → Type 0) → (X → Meaning) → (X → Grouped) → Call → Cache X → Answer → Cache X → Type 0
-GroupCalling agrees meaning grouped k c r c' = Agreeing agrees meaning c → Over (GroupCalls meaning grouped) k c.memory.up c.below r c'.below
+GroupCalling agrees meaning grouped k c r c' = Agreeing agrees meaning c → Over (GroupCalls meaning grouped) k (up c.memory) c.below r c'.below
 
 -- which pages it then keeps
 abbrev pub Keeping : {X : Type 0} → (X → Type 0) → (X → Meaning) → Call → Cache X → Answer → Cache X → Type 0

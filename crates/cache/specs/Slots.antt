@@ -1,10 +1,15 @@
 -- The eight slots of a cache's table.
-use Rattle.std.specs.Prelude.{◌≡◌, ℕ, ◌+◌, ◌%◌, ◌<◌, List, get_or, replicate, Some, None, Option, ◌≢◌, slice_index_or, slice_set}
+use Rattle.std.specs.Prelude.{◌≡◌, ℕ, ◌+◌, ◌%◌, ◌<◌, Bool, false, List, get_or, replicate, Some, None, Option, ◌≢◌, ◌==◌, slice_index_or, slice_set}
 use Rattle.cache.specs.declared.table.Kept.{Kept}
 use Rattle.cache.specs.declared.table.Table.{Table}
 
 abbrev pub Slots : Type 0
 Slots = List (Option Kept)
+
+-- a slot keeps page p
+abbrev pub keeps_page : ℕ → Option Kept → Bool
+keeps_page p None = false
+keeps_page p (Some k) = k.page == p
 
 -- slot i keeps page p with these bytes
 pub record At (slots : Slots) (i p : ℕ) (bs : List ℕ) : Type 0 where
@@ -37,5 +42,8 @@ abbrev pub Keeps : Table → ℕ → List ℕ → Table → Type 0
 Keeps t p bs t' = (i : ℕ) × Placed t p i t'.next × (t'.slots ≡ slice_set t.slots i (Some (record { page = p; bytes = bs })))
 
 -- the table as it is made: nothing is kept, and the circle begins at slot 0
+abbrev pub no_page : Table
+no_page = record { slots = replicate 8 None; next = 0 }
+
 abbrev pub Empty : Table → Type 0
-Empty t = t ≡ record { slots = replicate 8 None; next = 0 }
+Empty t = t ≡ no_page

@@ -3,7 +3,7 @@ ghost use Rattle.std.specs.Prelude.{◌≡◌};
 ghost use Rattle.std.specs.Borrow.{sem, follows};
 ghost use Rattle.cache.specs.contracts.cache.Cache.{the_row};
 ghost use Rattle.device.specs.Calls.{reads, writes, syncs, restarts, discards};
-ghost use Rattle.cache.specs.Keeping.{Fresh, under_sound};
+ghost use Rattle.cache.specs.Keeping.{up, Fresh, under_sound};
 ghost use Rattle.cache.specs.Over.{cached, Agreeing, Doing, GroupDoing, Calling, GroupCalling, Keeping, Resting};
 
 use crate::memory::Memory;
@@ -53,7 +53,7 @@ impl<D: Device> Device for Cache<D> {
 
     ghost agrees = { Agreeing D.Device.agrees D.Device.meaning };
 
-    ghost sound = { λ c a. under_sound c.memory.up (D.Device.meaning c.below) a.1.below (D.Device.sound c.below a.0) };
+    ghost sound = { λ c a. under_sound (up c.memory) (D.Device.meaning c.below) a.1.below (D.Device.sound c.below a.0) };
 
     fn page_count(&self) -> usize {
         self.below.page_count()
@@ -65,13 +65,13 @@ impl<D: Device> Device for Cache<D> {
         ensures kept { Keeping D.Device.agrees D.Device.meaning (reads page buf.old buf.new) self.old result self.new }
         ensures still { Resting D.Device.agrees D.Device.meaning page self.old self.new }
     {
-        gate(self.below.page_count(), page, buf.len(), self.memory.up)?;
-        if self.memory.table.copy_kept(page, buf) {
+        gate(self.below.page_count(), page, buf.len(), self.memory.up())?;
+        if let Some(bytes) = self.memory.get(page) {
+            buf.copy_from_slice(bytes);
             return Ok(());
         }
         let r = self.below.read(page, buf);
-        self.memory.note(page, buf, r);
-        r
+        self.memory.note(page, buf, r)
     }
 
     fn write(&mut self, page: usize, buf: &[u8]) -> Result<(), DeviceFault>
@@ -79,10 +79,9 @@ impl<D: Device> Device for Cache<D> {
         ensures calls { Calling D.Device.agrees D.Device.meaning (writes page buf.now) self.old result self.new }
         ensures kept { Keeping D.Device.agrees D.Device.meaning (writes page buf.now) self.old result self.new }
     {
-        gate(self.below.page_count(), page, buf.len(), self.memory.up)?;
+        gate(self.below.page_count(), page, buf.len(), self.memory.up())?;
         let r = self.below.write(page, buf);
-        self.memory.note(page, buf, r);
-        r
+        self.memory.note(page, buf, r)
     }
 
     fn sync(&mut self) -> Result<(), DeviceFault>
@@ -92,8 +91,7 @@ impl<D: Device> Device for Cache<D> {
     {
         self.memory.running()?;
         let r = self.below.sync();
-        self.memory.hear(r);
-        r
+        self.memory.hear(r)
     }
 
     fn restart(&mut self) -> Result<(), DeviceFault>
@@ -102,8 +100,7 @@ impl<D: Device> Device for Cache<D> {
         ensures kept { Keeping D.Device.agrees D.Device.meaning restarts self.old result self.new }
     {
         let r = self.below.restart();
-        self.memory.revive(r);
-        r
+        self.memory.revive(r)
     }
 }
 
@@ -116,13 +113,13 @@ impl<D: GroupDevice> GroupDevice for Cache<D> {
         ensures kept { Keeping D.Device.agrees D.Device.meaning (reads page buf.old buf.new) self.old result self.new }
         ensures still { Resting D.Device.agrees D.Device.meaning page self.old self.new }
     {
-        gate(self.below.page_count(), page, buf.len(), self.memory.up)?;
-        if self.memory.table.copy_kept(page, buf) {
+        gate(self.below.page_count(), page, buf.len(), self.memory.up())?;
+        if let Some(bytes) = self.memory.get(page) {
+            buf.copy_from_slice(bytes);
             return Ok(());
         }
         let r = GroupDevice::read(&mut self.below, page, buf);
-        self.memory.note(page, buf, r);
-        r
+        self.memory.note(page, buf, r)
     }
 
     fn write(&mut self, page: usize, buf: &[u8]) -> Result<(), DeviceFault>
@@ -130,10 +127,9 @@ impl<D: GroupDevice> GroupDevice for Cache<D> {
         ensures calls { GroupCalling D.Device.agrees D.Device.meaning D.GroupDevice.grouped (writes page buf.now) self.old result self.new }
         ensures kept { Keeping D.Device.agrees D.Device.meaning (writes page buf.now) self.old result self.new }
     {
-        gate(self.below.page_count(), page, buf.len(), self.memory.up)?;
+        gate(self.below.page_count(), page, buf.len(), self.memory.up())?;
         let r = GroupDevice::write(&mut self.below, page, buf);
-        self.memory.note(page, buf, r);
-        r
+        self.memory.note(page, buf, r)
     }
 
     fn sync(&mut self) -> Result<(), DeviceFault>
@@ -143,8 +139,7 @@ impl<D: GroupDevice> GroupDevice for Cache<D> {
     {
         self.memory.running()?;
         let r = GroupDevice::sync(&mut self.below);
-        self.memory.hear(r);
-        r
+        self.memory.hear(r)
     }
 
     fn restart(&mut self) -> Result<(), DeviceFault>
@@ -153,8 +148,7 @@ impl<D: GroupDevice> GroupDevice for Cache<D> {
         ensures kept { Keeping D.Device.agrees D.Device.meaning restarts self.old result self.new }
     {
         let r = GroupDevice::restart(&mut self.below);
-        self.memory.revive(r);
-        r
+        self.memory.revive(r)
     }
 
     fn discard(&mut self) -> Result<(), DeviceFault>
@@ -164,7 +158,6 @@ impl<D: GroupDevice> GroupDevice for Cache<D> {
     {
         self.memory.running()?;
         let r = self.below.discard();
-        self.memory.forget(r);
-        r
+        self.memory.forget(r)
     }
 }

@@ -1,16 +1,16 @@
 // What a cache itself holds, beside the device below it, and what the answers from there make of it.
-ghost use Rattle.std.specs.Prelude.{◌≡◌, true, false, length, MatchResult};
+ghost use Rattle.std.specs.Prelude.{◌≡◌, ℕ, true, false, length, MatchOption, MatchResult};
 ghost use Rattle.device.specs.Numbers.{number};
-ghost use Rattle.cache.specs.Keeping.{Fresh, Heard, Noted, Revived, Forgot};
+ghost use Rattle.cache.specs.Slots.{At, Absent};
+ghost use Rattle.cache.specs.Keeping.{up, table_of, Fresh, Heard, Noted, Revived, Forgot};
 
 use crate::table::Table;
-use device::DeviceFault;
+use device::{DeviceFault, PAGE_SIZE};
 
-/// Whether the cache runs, and the pages that it keeps.
+/// The pages that a cache keeps while it runs; there is no table while it is down.
 #[derive(Drop)]
 pub(crate) struct Memory {
-    pub(crate) up: bool,
-    pub(crate) table: Table,
+    table: Option<Table>,
 }
 
 impl Memory {
@@ -18,56 +18,80 @@ impl Memory {
     pub(crate) fn new() -> Memory
         ensures { Fresh result }
     {
-        Memory {
-            up: false,
-            table: Table::new(),
-        }
+        Memory { table: None }
+    }
+
+    /// Whether the cache runs.
+    pub(crate) fn up(&self) -> bool
+        ensures { result ≡ up self.now }
+    {
+        self.table.is_some()
     }
 
     /// Refuses a call of a cache that is down.
     pub(crate) fn running(&self) -> Result<(), DeviceFault>
-        ensures { MatchResult result (λ _. self.now.up ≡ true) (λ e. (self.now.up ≡ false) × (number e ≡ 11)) }
+        ensures { MatchResult result (λ _. up self.now ≡ true) (λ e. (up self.now ≡ false) × (number e ≡ 11)) }
     {
-        if !self.up {
+        if !self.up() {
             return Err(DeviceFault::PowerLost);
         }
         Ok(())
     }
 
-    /// After a call below: where it was answered that power was lost, the cache is down and keeps nothing.
-    pub(crate) fn hear(&mut self, r: Result<(), DeviceFault>)
-        ensures { Heard self.old r self.new }
+    /// The bytes of a page that is kept.
+    pub(crate) fn get(&self, page: usize) -> Option<&[u8; PAGE_SIZE]>
+        ensures { MatchOption result (Absent (table_of self.now).slots page) (λ b. (i : ℕ) × At (table_of self.now).slots i page b.now) }
     {
-        match r {
-            Err(DeviceFault::PowerLost) => *self = Memory::new(),
-            _ => {}
+        self.table.as_ref()?.get(page)
+    }
+
+    /// After a call below: where it was answered that power was lost, the cache is down and keeps nothing.
+    pub(crate) fn hear(&mut self, r: Result<(), DeviceFault>) -> Result<(), DeviceFault>
+        ensures heard { Heard self.old r self.new }
+        ensures same { result ≡ r }
+    {
+        if r == Err(DeviceFault::PowerLost) {
+            self.table = None;
         }
+        r
     }
 
     /// After a read or a write below: keeps the page where it was accepted.
-    pub(crate) fn note(&mut self, page: usize, buf: &[u8], r: Result<(), DeviceFault>)
-        requires { length buf.now ≡ 252 }
-        ensures { Noted page buf.now self.old r self.new }
+    pub(crate) fn note(
+        &mut self,
+        page: usize,
+        buf: &[u8],
+        r: Result<(), DeviceFault>,
+    ) -> Result<(), DeviceFault>
+        requires up { up self.old ≡ true }
+        requires size { length buf.now ≡ 252 }
+        ensures noted { Noted page buf.now self.old r self.new }
+        ensures same { result ≡ r }
     {
-        match r {
-            Ok(()) => self.table.keep(page, buf),
-            Err(_) => self.hear(r),
+        self.hear(r)?;
+        if let Some(table) = &mut self.table {
+            table.keep(page, buf);
         }
+        Ok(())
     }
 
     /// After a restart below: the cache keeps nothing, and runs where it was accepted.
-    pub(crate) fn revive(&mut self, r: Result<(), DeviceFault>)
-        ensures { Revived r self.new }
+    pub(crate) fn revive(&mut self, r: Result<(), DeviceFault>) -> Result<(), DeviceFault>
+        ensures revived { Revived r self.new }
+        ensures same { result ≡ r }
     {
-        *self = Memory::new();
-        self.up = r.is_ok();
+        self.table = r.is_ok().then(Table::new);
+        r
     }
 
     /// After a discard below: the cache keeps nothing.
-    pub(crate) fn forget(&mut self, r: Result<(), DeviceFault>)
-        ensures { Forgot self.old r self.new }
+    pub(crate) fn forget(&mut self, r: Result<(), DeviceFault>) -> Result<(), DeviceFault>
+        ensures forgot { Forgot self.old r self.new }
+        ensures same { result ≡ r }
     {
-        self.table.clear();
-        self.hear(r);
+        if let Some(table) = &mut self.table {
+            table.clear();
+        }
+        self.hear(r)
     }
 }

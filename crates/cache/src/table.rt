@@ -1,6 +1,7 @@
 // Eight pages kept in memory. The slots fill up in their order, and are then given up in a circle.
-ghost use Rattle.std.specs.Prelude.{◌≡◌, ℕ, ◌+◌, ◌%◌, true, false, List, length, Some, None, MatchOption, ◌≢◌};
-ghost use Rattle.cache.specs.Slots.{At, Absent, Full, Vacant, Placed, Empty, Keeps};
+ghost use Rattle.std.specs.Prelude.{◌≡◌, ℕ, ◌+◌, ◌%◌, List, length, MatchOption};
+ghost use Rattle.std.specs.List.{position};
+ghost use Rattle.cache.specs.Slots.{keeps_page, At, Absent, Full, Vacant, Placed, Empty, Keeps};
 
 use device::PAGE_SIZE;
 
@@ -21,17 +22,6 @@ pub(crate) struct Table {
     next: usize,
 }
 
-// The slot keeps the page.
-fn is_for(slot: Option<Kept>, page: usize) -> bool
-    ensures yes { result ≡ true → (bs : List ℕ) × (slot ≡ Some (record { page = page; bytes = bs })) }
-    ensures otherwise { result ≡ false → (bs : List ℕ) → slot ≢ Some (record { page = page; bytes = bs }) }
-{
-    match slot {
-        Some(k) => k.page == page,
-        None => false,
-    }
-}
-
 impl Table {
     pub(crate) fn new() -> Table
         ensures { Empty result }
@@ -44,26 +34,18 @@ impl Table {
 
     // The slot that keeps the page.
     fn find(&self, page: usize) -> Option<usize>
-        ensures { MatchOption result (Absent self.now.slots page) (λ i. (bs : List ℕ) × At self.now.slots i page bs) }
+        ensures { result ≡ position (keeps_page page) self.now.slots }
     {
-        for i in 0..SLOTS {
-            if is_for(self.slots[i], page) {
-                return Some(i);
-            }
-        }
-        None
+        self.slots
+            .iter()
+            .position(|slot| matches!(slot, Some(kept) if kept.page == page))
     }
 
     // The first slot that keeps nothing.
     fn vacant(&self) -> Option<usize>
         ensures { MatchOption result (Full 8 self.now.slots) (Vacant self.now.slots) }
     {
-        for i in 0..SLOTS {
-            if self.slots[i].is_none() {
-                return Some(i);
-            }
-        }
-        None
+        self.slots.iter().position(Option::is_none)
     }
 
     // The slot that is given up for a ninth page: the next in the circle, which moves on by one.
@@ -109,19 +91,13 @@ impl Table {
         *self = Table::new();
     }
 
-    /// Copies the page out, if it is kept.
-    pub(crate) fn copy_kept(&self, page: usize, buf: &mut [u8]) -> bool
-        requires { length buf.old ≡ 252 }
-        ensures there { result ≡ true → (i : ℕ) × At self.now.slots i page buf.new }
-        ensures absent { result ≡ false → (Absent self.now.slots page × (buf.new ≡ buf.old)) }
+    /// The bytes of the page, if it is kept.
+    pub(crate) fn get(&self, page: usize) -> Option<&[u8; PAGE_SIZE]>
+        ensures { MatchOption result (Absent self.now.slots page) (λ b. (i : ℕ) × At self.now.slots i page b.now) }
     {
-        let Some(i) = self.find(page) else {
-            return false;
-        };
-        if let Some(k) = self.slots[i] {
-            buf.copy_from_slice(&k.bytes);
-        }
-        true
+        let i = self.find(page)?;
+        let kept = self.slots[i].as_ref()?;
+        Some(&kept.bytes)
     }
 }
 
@@ -137,10 +113,9 @@ mod tests {
         }
         t.keep(0, &[2; 252]);
         t.keep(8, &[3; 252]);
-        let mut buf = [0; 252];
-        assert_eq!(rt; t.copy_kept(0, &mut buf), false);
-        assert_eq!(rt; t.copy_kept(1, &mut buf), true);
-        assert_eq!(rt; t.copy_kept(8, &mut buf), true);
-        assert_eq!(rt; buf[251], 3);
+        assert!(rt; t.get(0).is_none());
+        assert!(rt; t.get(1).is_some());
+        let bytes = t.get(8).expect(&rt, "page 8 is kept");
+        assert_eq!(rt; bytes[251], 3);
     }
 }

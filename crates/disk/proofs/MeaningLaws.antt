@@ -12,21 +12,7 @@ use Rattle.disk.specs.Arm.{letter_of}
 use Rattle.disk.specs.Image.{count_of, marked, current, Fate, cleared, Swept, cut_page, rank, CutTo}
 use Rattle.disk.specs.Held.{Held, count, means, stored, started, Synced, Cut}
 use Rattle.disk.proofs.RawLaws.{length_put, raw_put, raw_other, length_sealed, decode_sealed}
-use Rattle.disk.proofs.SweepLaws.{cleared_below, length_cleared}
-
--- the pages lie within the images
-module _ (s w k : List ℕ) where
-  pub count_settled : count_of s w k * 256 ≤ length s
-  unfolding count_of
-  count_settled = omega arith
-
-  pub count_written : count_of s w k * 256 ≤ length w
-  unfolding count_of
-  count_written = omega arith
-
-  pub count_marks : count_of s w k ≤ length k
-  unfolding count_of
-  count_marks = omega arith
+use Rattle.disk.proofs.SweepLaws.{count_written, count_marks, cleared_below, length_cleared, not_marked}
 
 pub count_same : (s w k s' w' k' : List ℕ) → length s' ≡ length s → length w' ≡ length w → length k' ≡ length k → count_of s' w' k' ≡ count_of s w k
 unfolding count_of
@@ -37,17 +23,13 @@ count_same s w k s' w' k' a b c =
 
 -- a cleared page shows what is settled, and has no other fate
 module _ (s w k : List ℕ) (i : ℕ) (clear : get_or k i 0 ≡ 0) where
-  pub not_marked : marked k i ≡ false
-  unfolding marked
-  not_marked = ap (λ v. not (eqb v 0)) clear
-
   pub current_settled : current s w k i ≡ raw s i
   unfolding current
-  current_settled = cond-false (marked k i) (raw w i) (raw s i) not_marked
+  current_settled = cond-false (marked k i) (raw w i) (raw s i) (not_marked k i clear)
 
   pub fate_settled : (t : State) → Fate s w k i t → t ≡ decode (raw s i)
   fate_settled t (inl e) = e
-  fate_settled t (inr p) = absurd (both_ways (marked k i) not_marked p.0)
+  fate_settled t (inr p) = absurd (both_ways (marked k i) (not_marked k i clear) p.0)
 
 pub start_done : (x : Held) → RestartDone (means x) (means (started x))
 start_done x =
@@ -100,10 +82,6 @@ Left t old new = (t ≡ decode old) ⊎ ((t ≡ decode new) ⊎ (t ≡ spoiled))
 pub spoils : (r : List ℕ) → holds r ≡ false → decode r ≡ spoiled
 unfolding decode
 spoils r b = cond-false (holds r) (bytes (take 252 r)) spoiled b
-
-pub whole : (r : List ℕ) → holds r ≡ true → decode r ≡ bytes (take 252 r)
-unfolding decode
-whole r b = cond-true (holds r) (bytes (take 252 r)) spoiled b
 
 torn_left : (T : ℕ) (old new : List ℕ) → Left (decode (torn T old new)) old new
 unfolding torn
@@ -208,18 +186,8 @@ module _ (x : Held) (p : ℕ) (buf : List ℕ) (lt : p < count x) (size : length
       }
 
   -- a page is shown, or spoiled
-  pub show_done : x.running ≡ true → (buf' : List ℕ) → true ≡ holds (current x.settled x.written x.marks p) → buf' ≡ take 252 (current x.settled x.written x.marks p) → ReadDone (means x) p buf buf' (means x)
-  show_done r buf' h e = record {
-    passes = record { within = lt; size = size };
-    running = r;
-    value = whole (current x.settled x.written x.marks p) (sym h) ∙ ap bytes (sym e);
-    same = same_self (means x);
-  }
+  pub show_done : x.running ≡ true → (buf' : List ℕ) → decode (current x.settled x.written x.marks p) ≡ bytes buf' → ReadDone (means x) p buf buf' (means x)
+  show_done r buf' e = record { passes = record { within = lt; size = size }; running = r; value = e; same = same_self (means x) }
 
-  pub show_spoiled : x.running ≡ true → false ≡ holds (current x.settled x.written x.marks p) → ReadSpoiled (means x) p buf (means x)
-  show_spoiled r h = record {
-    passes = record { within = lt; size = size };
-    running = r;
-    value = spoils (current x.settled x.written x.marks p) (sym h);
-    same = same_self (means x);
-  }
+  pub show_spoiled : x.running ≡ true → decode (current x.settled x.written x.marks p) ≡ spoiled → ReadSpoiled (means x) p buf (means x)
+  show_spoiled r e = record { passes = record { within = lt; size = size }; running = r; value = e; same = same_self (means x) }

@@ -1,15 +1,23 @@
 -- Raw pages of an image: what a write to one leaves.
-use Rattle.std.proofs.Common.{◌≡◌, ℕ, ◌+◌, ◌-◌, ◌*◌, ◌/◌, ◌%◌, ◌<◌, ◌≤◌, Bool, true, false, cond, not, ◌&&◌, eqb, ◌≢◌, List, [], ◌∷◌, ◌++◌, length, get_or, take, drop, sym, refl, ap, ◌∙◌, ⊎_elim, mod-eq_of_lt, arith}
+use Rattle.std.proofs.Common.{◌≡◌, ℕ, zero, suc, ◌+◌, ◌-◌, ◌*◌, ◌/◌, ◌%◌, ◌<◌, ◌≤◌, Bool, true, false, cond, eqb, ◌≢◌, List, [], ◌∷◌, ◌++◌, Option, Bor, length, get_or, take, drop, sym, refl, ap, ◌∙◌, ⊎_elim, mod-eq_of_lt, arith}
 use native.Mathlib.Nat.{div-div-eq-div-mul}
 use borrow.Rule.Slice.PartMut.{put_mid}
-use Rattle.std.proofs.lemmas.List.{take_at, drop_at, append-nil, length-take, length-drop, length-append, drop-drop, append_assoc, get_or-take, get_or-drop, get_or_append_left, get_or-append_right, ext_get_or, drop_all, take-append-drop}
-use Rattle.std.proofs.lemmas.Bool.{cases_order, eq-eqb, ne_eqb, cond-true, cond-false, cond_both}
+use Rattle.std.proofs.lemmas.List.{take_at, drop_at, append-nil, length-take, length-drop, length-append, drop-drop, append_assoc, get_or-take, get_or-drop, get_or_append_left, get_or-append_right, ext_get_or, drop_all}
+use Rattle.std.proofs.lemmas.Bool.{cases_order, eq-eqb, cond_both}
 use Rattle.disk.specs.Raw.{check_of, raw, put_raw, sealed, holds, decode, stored, mix, torn, chosen}
-use Rattle.std.specs.Str.{bytes_eq}
-use Rattle.device.specs.Meaning.{bytes}
+use Rattle.std.specs.Bool.{then_some}
+use Rattle.std.specs.Option.{MatchOption}
+use Rattle.std.specs.Simd.{first_chunks}
+use Rattle.device.specs.Meaning.{bytes, spoiled}
 
 pub back : (a b : ℕ) → (a + b) - a ≡ b
 back a b = omega arith
+
+-- a slice of arrays of n elements has those of its list
+pub at_chunk : {X : Type 0} (n c : ℕ) (xs : List X) (i : ℕ) → i < c → get_or (first_chunks n c xs) i [] ≡ take n (drop (i * n) xs)
+at_chunk n zero xs i h = absurd (omega arith)
+at_chunk n (suc c) xs zero h = ap (λ m. take n (drop m xs)) (let z : 0 ≡ 0 * n = omega arith in z)
+at_chunk n (suc c) xs (suc i) h = at_chunk n c (drop n xs) i (omega arith) ∙ (ap (take n) (drop-drop (i * n) n xs) ∙ ap (λ m. take n (drop m xs)) (let z : n + i * n ≡ suc i * n = grind arith in z))
 
 pub length_raw : (img : List ℕ) (i : ℕ) → i * 256 + 256 ≤ length img → length (raw img i) ≡ 256
 unfolding raw
@@ -60,6 +68,13 @@ module _ (img x : List ℕ) (i j : ℕ) (h : i * 256 + 256 ≤ length img) (e : 
       (λ k lt.
       let lt' : k < 256 = omega (arith, lt, length_raw (put_raw img i x) j g') in
       get_d_raw (put_raw img i x) j k 0 lt' ∙ (other_at k 0 ne lt' ∙ sym (get_d_raw img j k 0 lt')))
+
+-- a raw page r shows its page, if its check holds
+pub shown_page : (o : Option (Bor (List ℕ))) (b : Bool) (p : Bor (List ℕ)) (x r : List ℕ) → o ≡ then_some b p → b ≡ holds x → p.now ≡ take 252 x → x ≡ r
+    → MatchOption o (decode r ≡ spoiled) (λ q. decode r ≡ bytes q.now)
+unfolding decode
+shown_page o true p x r e f g h = rw (e, ← h, ← f, g)
+shown_page o false p x r e f g h = rw (e, ← h, ← f)
 
 -- the check, once written, is read again
 check_small : (p : List ℕ) → check_of p < 4294967296
@@ -130,22 +145,6 @@ drop_put img x i n h e le =
     ∙ (drop-drop (n - (i * 256 + 256)) (i * 256 + 256) img
     ∙ ap (λ m. drop m img) (let z : (i * 256 + 256) + (n - (i * 256 + 256)) ≡ n = omega arith in z)))))
 
-pub put_self : (img : List ℕ) (i : ℕ) → put_raw img i (raw img i) ≡ img
-unfolding put_raw raw
-put_self img i =
-    ap (λ t. take (i * 256) img ++ (take 256 (drop (i * 256) img) ++ t)) (sym (drop-drop 256 (i * 256) img))
-    ∙ (ap (λ t. take (i * 256) img ++ t) (take-append-drop 256 (drop (i * 256) img))
-    ∙ take-append-drop (i * 256) img)
-
-module _ (T : ℕ) (old new : List ℕ) (b : Bool) (is : b ≡ (holds (mix T old new) && (not (bytes_eq (mix T old new) old) && not (bytes_eq (mix T old new) new)))) where
-  pub torn_old : b ≡ true → torn T old new ≡ old
-  unfolding torn
-  torn_old t = cond-true _ old (mix T old new) (sym is ∙ t)
-
-  pub torn_mix : b ≡ false → torn T old new ≡ mix T old new
-  unfolding torn
-  torn_mix t = cond-false _ old (mix T old new) (sym is ∙ t)
-
 pub mix_is : (T : ℕ) (old new front out : List ℕ) → front ≡ take (T - 0) new → out ≡ old → front ++ drop (T - 0) out ≡ mix T old new
 unfolding mix
 mix_is T old new front out e f =
@@ -161,18 +160,6 @@ unfolding torn
 length_torn T old new a b = cond_both _ old (mix T old new) (λ x. length x ≡ 256) (λ _. a) (λ _. length_mix T old new a b)
 
 module _ (l T : ℕ) (old new : List ℕ) where
-  pub chosen_o : l ≡ 111 → chosen l T old new ≡ old
-  unfolding chosen
-  chosen_o e = cond-true _ _ _ (eq-eqb l 111 e)
-
-  pub chosen_n : l ≡ 110 → chosen l T old new ≡ new
-  unfolding chosen
-  chosen_n e = cond-false _ _ _ (ne_eqb l 111 (λ q. let z : l ≡ 111 = q in omega arith)) ∙ cond-true _ _ _ (eq-eqb l 110 e)
-
-  pub chosen_t : (l ≡ 111 → ⊥) → (l ≡ 110 → ⊥) → chosen l T old new ≡ torn T old new
-  unfolding chosen
-  chosen_t e f = cond-false _ _ _ (ne_eqb l 111 e) ∙ cond-false _ _ _ (ne_eqb l 110 f)
-
   pub length_chosen : length old ≡ 256 → length new ≡ 256 → length (chosen l T old new) ≡ 256
   unfolding chosen
   length_chosen a b =

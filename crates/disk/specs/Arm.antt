@@ -1,7 +1,9 @@
 -- How a disk is armed to lose power: after how many counted calls, by which letters, and after how many bytes a torn page tears.
-use Rattle.std.specs.Prelude.{◌≡◌, ℕ, ◌-◌, ◌%◌, min, max, Bool, true, ◌&&◌, ◌||◌, List, [], ◌∷◌, length, take, ◌==◌, nat_le, slice_index}
+use Rattle.std.specs.Prelude.{◌≡◌, ℕ, ◌-◌, ◌%◌, Bool, true, false, ◌&&◌, ◌||◌, List, [], ◌∷◌, map, length, Result, MatchResult, ◌==◌, nat_le, slice_index}
 use Rattle.disk.specs.declared.arming.ArmFault.{ArmFault}
 use Rattle.disk.specs.declared.arming.ArmFault.TheVariants.{NotAsStated}
+use Rattle.disk.specs.declared.arming.Letter.{Letter}
+use Rattle.disk.specs.declared.arming.Letter.TheVariants.{Old, New, Torn}
 use Rattle.disk.specs.declared.arming.Arming.{Arming}
 
 -- the number that stands for the refusal of an arming
@@ -12,6 +14,16 @@ arm_number NotAsStated = 8
 abbrev pub is_letter : ℕ → Bool
 is_letter x = x == 111 || (x == 110 || x == 116)
 
+-- the byte of a letter
+abbrev pub byte_of : Letter → ℕ
+byte_of Old = 111
+byte_of New = 110
+byte_of Torn = 116
+
+-- a byte is read as the letter whose byte it is, or is no letter
+abbrev pub ReadsLetter : ℕ → Result Letter ArmFault → Type 0
+ReadsLetter x r = MatchResult r (λ l. byte_of l ≡ x) (λ e. is_letter x ≡ false)
+
 abbrev pub all_letters : List ℕ → Bool
 all_letters [] = true
 all_letters (x ∷ xs) = is_letter x && all_letters xs
@@ -20,9 +32,8 @@ all_letters (x ∷ xs) = is_letter x && all_letters xs
 unfoldable pub stated : List ℕ → ℕ → Bool
 stated ls t = (nat_le 1 (length ls) && nat_le (length ls) 8) && (all_letters ls && (nat_le 1 t && nat_le t 255))
 
--- the letters that are in use, of eight places
-unfoldable pub letters_of : ℕ → List ℕ → List ℕ
-letters_of used ls = take (max (min used 8) 1) ls
+abbrev pub bytes_of : List Letter → List ℕ
+bytes_of = map byte_of
 
 -- the letter of the unsettled page that comes after n others: the letters are repeated
 unfoldable pub letter_of : List ℕ → ℕ → ℕ
@@ -33,5 +44,4 @@ pub record Ticked (a : Arming) (lost : Bool) (b : Arming) : Type 0 where
   pub last : lost ≡ (a.left == 1)
   pub left : b.left ≡ a.left - 1
   pub letters : b.letters ≡ a.letters
-  pub used : b.used ≡ a.used
   pub kept : b.kept ≡ a.kept

@@ -1,12 +1,13 @@
 -- What a disk holds, what it means by that, and what its work makes of it.
-use Rattle.std.specs.Prelude.{◌≡◌, ℕ, ◌-◌, Bool, true, false, List, [], Result, MatchResult, ◌==◌, slice_set}
+use Rattle.std.specs.Prelude.{◌≡◌, ℕ, ◌-◌, Bool, true, false, List, [], Option, Some, None, Result, MatchResult, ◌==◌, slice_set}
 use Rattle.device.specs.Meaning.{Meaning}
 use Rattle.device.specs.Numbers.{number}
 use Rattle.device.specs.Calls.{Answer}
-use Rattle.disk.specs.Arm.{arm_number, letters_of, stated}
+use Rattle.disk.specs.Arm.{arm_number, bytes_of, stated}
 use Rattle.disk.specs.Raw.{decode, put_raw, sealed}
 use Rattle.disk.specs.Image.{count_of, current, Fate, cleared, Settled, CutTo}
 use Rattle.disk.specs.declared.arming.ArmFault.{ArmFault}
+use Rattle.disk.specs.declared.arming.Arming.{Arming}
 use Rattle.disk.specs.declared.disk.Disk.{Disk}
 
 pub record Held : Type 0 where
@@ -25,15 +26,28 @@ pub record Held : Type 0 where
   -- how many bytes of the new page a torn one begins with
   pub kept : ℕ
 
+-- the calls, the letters and the length that a disk is armed with; one that is not armed has no letters
+abbrev pub left_of : Option Arming → ℕ
+left_of None = 0
+left_of (Some a) = a.left
+
+abbrev pub letters_of : Option Arming → List ℕ
+letters_of None = []
+letters_of (Some a) = bytes_of a.letters.items
+
+abbrev pub kept_of : Option Arming → ℕ
+kept_of None = 0
+kept_of (Some a) = a.kept
+
 abbrev pub held : Disk → Held
 held d = record {
-  settled = d.settled.now;
-  written = d.written.now;
-  marks = d.marks.now;
+  settled = d.images.settled.now;
+  written = d.images.written.now;
+  marks = d.images.marks.now;
   running = d.running;
-  left = d.arming.left;
-  letters = letters_of d.arming.used d.arming.letters;
-  kept = d.arming.kept;
+  left = left_of d.arming;
+  letters = letters_of d.arming;
+  kept = kept_of d.arming;
 }
 
 -- how many pages there are

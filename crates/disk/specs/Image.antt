@@ -3,11 +3,15 @@
 use Rattle.std.specs.Prelude.{◌≡◌, ℕ, zero, suc, ◌+◌, ◌*◌, ◌/◌, ◌<◌, ◌≤◌, min, Bool, true, cond, not, ◌⊎◌, List, ◌++◌, length, drop, replicate, ◌==◌, slice_index}
 use Rattle.device.specs.Meaning.{State, spoiled}
 use Rattle.disk.specs.Arm.{letter_of}
+use Rattle.disk.specs.declared.images.Images.{Images}
 use Rattle.disk.specs.Raw.{raw, decode, chosen}
 
 -- whole pages in all three, at most 131072
 unfoldable pub count_of : List ℕ → List ℕ → List ℕ → ℕ
 count_of s w k = min (min (length s / 256) (length w / 256)) (min (length k) 131072)
+
+abbrev pub pages : Images → ℕ
+pages m = count_of m.settled.now m.written.now m.marks.now
 
 -- page i was written and is not settled
 unfoldable pub marked : List ℕ → ℕ → Bool

@@ -1,6 +1,8 @@
 // How a disk is armed to lose power.
-ghost use Rattle.std.specs.Prelude.{◌≡◌, ◌-◌, ◌≤◌, true, false, ◌&&◌, length, take, MatchResult, nat_le};
-ghost use Rattle.disk.specs.Arm.{Ticked, all_letters, arm_number, is_letter, letter_of, letters_of, stated};
+ghost use Rattle.std.specs.Prelude.{◌≡◌, ◌<◌, true, false, MatchResult};
+ghost use Rattle.arrayvec.specs.ArrayVec.{array_vec_len};
+
+use arrayvec::ArrayVec;
 
 /// Why an arming is refused.
 #[derive(Clone, Copy, Debug, PartialEq, Eq)]
@@ -10,6 +12,8 @@ pub enum ArmFault {
 }
 
 impl ArmFault {
+    ghost use Rattle.disk.specs.Arm.{arm_number};
+
     /// The number by which a refusal is known.
     pub fn number(self) -> u8
         ensures { result ≡ arm_number self }
@@ -20,44 +24,63 @@ impl ArmFault {
     }
 }
 
+/// What a loss of power leaves of an unsettled page.
+#[derive(Clone, Copy, Debug, Default, PartialEq, Eq)]
+pub(crate) enum Letter {
+    /// The old page, by the letter o.
+    #[default]
+    Old,
+    /// The new page, by the letter n.
+    New,
+    /// The front of the new page and the rest of the old one, by the letter t.
+    Torn,
+}
+
+impl TryFrom<u8> for Letter {
+    ghost use Rattle.disk.specs.Arm.{ReadsLetter};
+
+    type Error = ArmFault;
+
+    ghost try_from_gives = { ReadsLetter };
+
+    fn try_from(x: u8) -> Result<Letter, ArmFault> {
+        match x {
+            b'o' => Ok(Letter::Old),
+            b'n' => Ok(Letter::New),
+            b't' => Ok(Letter::Torn),
+            _ => Err(ArmFault::NotAsStated),
+        }
+    }
+}
+
 /// What a disk is armed with.
-#[derive(Clone, Copy)]
+#[derive(Drop)]
 pub(crate) struct Arming {
-    /// The counted calls until power is lost, the one that loses it included; 0 for never.
+    /// The counted calls until power is lost, the one that loses it included; 0 for never, as it is stated.
     pub(crate) left: u32,
-    /// The letters, of which `used` are in use.
-    pub(crate) letters: [u8; 8],
-    pub(crate) used: usize,
+    pub(crate) letters: ArrayVec<Letter, 8>,
     /// How many bytes of the new page a torn one begins with.
     pub(crate) kept: u8,
+    ghost lettered: { 0 < array_vec_len letters },
 }
 
 impl Arming {
-    /// The arming of a disk that was never armed.
-    pub(crate) fn none() -> Arming
-        ensures { result.left ≡ 0 }
-    {
-        Arming {
-            left: 0,
-            letters: [b'o'; 8],
-            used: 1,
-            kept: 1,
-        }
-    }
+    ghost use Rattle.disk.specs.Arm.{Ticked, arm_number, bytes_of, stated};
 
     /// An arming as stated, or its refusal.
     pub(crate) fn new(n: u32, letters: &[u8], t: usize) -> Result<Arming, ArmFault>
-        ensures { MatchResult result (λ a. (stated letters.now t ≡ true) × (a.left ≡ n) × (letters_of a.used a.letters ≡ letters.now) × (a.kept ≡ t)) (λ e. (arm_number e ≡ 8) × (stated letters.now t ≡ false)) }
+        ensures { MatchResult result (λ a. (stated letters.now t ≡ true) × (a.left ≡ n) × (bytes_of a.letters.items ≡ letters.now) × (a.kept ≡ t)) (λ e. (arm_number e ≡ 8) × (stated letters.now t ≡ false)) }
     {
-        if !as_stated(letters, t) {
+        if !(1..=8).contains(&letters.len()) || !(1..=255).contains(&t) {
             return Err(ArmFault::NotAsStated);
         }
-        let mut held = [b'o'; 8];
-        copy_front(&mut held, letters);
+        let mut known = ArrayVec::new();
+        for x in letters {
+            known.push(Letter::try_from(*x)?);
+        }
         Ok(Arming {
             left: n,
-            letters: held,
-            used: letters.len(),
+            letters: known,
             kept: t as u8,
         })
     }
@@ -70,57 +93,4 @@ impl Arming {
         self.left = self.left.saturating_sub(1);
         lost
     }
-
-    /// The letter of the unsettled page that comes after `turn` others: the letters are repeated.
-    pub(crate) fn letter(&self, turn: usize) -> u8
-        ensures { result ≡ letter_of (letters_of self.now.used self.now.letters) turn }
-    {
-        let n = self.used.min(8).max(1);
-        self.letters[turn % n]
-    }
-}
-
-// Whether a byte is one of the letters.
-fn is_letter(x: u8) -> bool
-    ensures { result ≡ is_letter x }
-{
-    x == b'o' || x == b'n' || x == b't'
-}
-
-// Whether each byte is one of the letters.
-fn all_letters(letters: &[u8]) -> bool
-    ensures { result ≡ all_letters letters.now }
-{
-    for x in letters {
-        if !is_letter(*x) {
-            return false;
-        }
-    }
-    true
-}
-
-// Whether `x` lies from `low` to `high`.
-fn lies(low: usize, x: usize, high: usize) -> bool
-    ensures { result ≡ (nat_le low x && nat_le x high) }
-{
-    low <= x && x <= high
-}
-
-// Whether letters and a length are as an arming asks.
-fn as_stated(letters: &[u8], t: usize) -> bool
-    ensures value { result ≡ stated letters.now t }
-{
-    let few = lies(1, letters.len(), 8);
-    let known = all_letters(letters);
-    let fits = lies(1, t, 255);
-    few & (known & fits)
-}
-
-// Copies `from` to the front of `to`.
-fn copy_front(to: &mut [u8], from: &[u8])
-    requires { length from.now ≤ length to.old }
-    ensures { take (length from.now) to.new ≡ from.now }
-{
-    let n = from.len();
-    to[0..n].copy_from_slice(from);
 }

@@ -1,28 +1,22 @@
 // A disk over memory that the host lends.
-ghost use Rattle.std.specs.Prelude.{◌≡◌, ◌+◌, ◌*◌, ◌<◌, ◌≤◌, length, take, if◌then◌else◌};
-ghost use Rattle.disk.specs.Raw.{holds};
-ghost use Rattle.disk.specs.Image.{current};
-ghost use Rattle.disk.specs.Held.{held, count, meant, Agrees, Fresh, Arms, Counts, Cut, Synced, marking, stored, started};
+ghost use Rattle.std.specs.Prelude.{◌≡◌};
+ghost use Rattle.disk.specs.Held.{held, meant, Agrees, Fresh, Arms, Counts};
 ghost use Rattle.disk.specs.HeldSound.{held_sound};
 ghost use Rattle.disk.specs.Exact.{ReadTo, WriteTo, SyncTo, RestartTo};
 ghost use Rattle.device.specs.Calls.{reads, writes, syncs, restarts};
 ghost use Rattle.device.specs.Clauses.{Does};
 ghost use Rattle.device.specs.Promises.{Same};
 
-use crate::arming::{ArmFault, Arming};
-use crate::cut::cut;
-use crate::raw::{RAW_SIZE, copy_shown, seal};
-use crate::sweep::{clear_marks, count_pages, settle};
+use crate::arming::{ArmFault, Arming, Letter};
+use crate::images::Images;
 use device::{Device, DeviceFault, gate};
 
 /// A disk over memory that the host lends: a settled image, a written image and a mark byte for each page.
 #[derive(Drop)]
 pub struct Disk<'a> {
-    settled: &'a mut [u8],
-    written: &'a mut [u8],
-    marks: &'a mut [u8],
+    images: Images<'a>,
     running: bool,
-    arming: Arming,
+    arming: Option<Arming>,
 }
 
 impl<'a> Disk<'a> {
@@ -31,14 +25,10 @@ impl<'a> Disk<'a> {
         ensures fresh { Fresh settled.old written.old marks.old (held result) }
         ensures agrees { Agrees result }
     {
-        let n = count_pages(settled, written, marks);
-        clear_marks(marks, n);
         Disk {
-            settled,
-            written,
-            marks,
+            images: Images::new(settled, written, marks),
             running: false,
-            arming: Arming::none(),
+            arming: None,
         }
     }
 
@@ -48,133 +38,20 @@ impl<'a> Disk<'a> {
         ensures arms { Arms n letters.now t (held self.old) result (held self.new) }
         ensures same { Same (meant self.old) (meant self.new) }
     {
-        self.arming = Arming::new(n, letters, t)?;
+        self.arming = Some(Arming::new(n, letters, t)?);
         Ok(())
     }
 
-    fn count(&self) -> usize
-        ensures count { result ≡ count (held self.now) }
-        ensures settled { result * 256 ≤ length self.now.settled.now }
-        ensures written { result * 256 ≤ length self.now.written.now }
-        ensures marks { result ≤ length self.now.marks.now }
-    {
-        count_pages(self.settled, self.written, self.marks)
-    }
-
-    // What stands in for a disk while its images are worked on.
-    fn none() -> Disk<'a> {
-        Disk {
-            settled: &mut [],
-            written: &mut [],
-            marks: &mut [],
-            running: false,
-            arming: Arming::none(),
-        }
-    }
-
-    // The disk after a loss of power.
-    fn cut_short(self) -> Disk<'a>
-        ensures { Cut (held self.entry) (held result) }
-    {
-        let Disk {
-            settled,
-            written,
-            marks,
-            running: _,
-            arming,
-        } = self;
-        let n = count_pages(settled, written, marks);
-        cut(settled, written, marks, &arming, n);
-        Disk {
-            settled,
-            written,
-            marks,
-            running: false,
-            arming: Arming::none(),
-        }
-    }
-
-    // The disk with all that was written settled.
-    fn settled(self) -> Disk<'a>
-        ensures { Synced (held self.entry) (held result) }
-    {
-        let Disk {
-            settled,
-            written,
-            marks,
-            running,
-            arming,
-        } = self;
-        let n = count_pages(settled, written, marks);
-        settle(settled, written, marks, n);
-        Disk {
-            settled,
-            written,
-            marks,
-            running,
-            arming,
-        }
-    }
-
-    // Counts a call. In the last one until the cut power is lost.
+    // Counts a call. In the last one until the cut power is lost, and the arming ends.
     fn count_call(&mut self) -> Result<(), DeviceFault>
         ensures { Counts (held self.old) result (held self.new) }
     {
-        if self.arming.tick() {
-            self.lose_power();
+        if let Some(arming) = self.arming.take_if(Arming::tick) {
+            self.images.settle(&arming.letters, arming.kept);
+            self.running = false;
             return Err(DeviceFault::PowerLost);
         }
         Ok(())
-    }
-
-    fn lose_power(&mut self)
-        ensures { Cut (held self.old) (held self.new) }
-    {
-        let d = std::mem::replace(self, Disk::none());
-        *self = d.cut_short();
-    }
-
-    fn settle_all(&mut self)
-        ensures { Synced (held self.old) (held self.new) }
-    {
-        let d = std::mem::replace(self, Disk::none());
-        *self = d.settled();
-    }
-
-    // Copies what a page shows into `buf`; false, and nothing is copied, where it is spoiled.
-    fn show(&self, page: usize, buf: &mut [u8]) -> bool
-        requires { (page * 256 + 256 ≤ length self.now.settled.now) × ((page * 256 + 256 ≤ length self.now.written.now) × ((page < length self.now.marks.now) × (length buf.old ≡ 252))) }
-        ensures good { result ≡ holds (current self.now.settled.now self.now.written.now self.now.marks.now page) }
-        ensures copied { buf.new ≡ (if result then take 252 (current self.now.settled.now self.now.written.now self.now.marks.now page) else buf.old) }
-    {
-        copy_shown(self.settled, self.written, self.marks, page, buf)
-    }
-
-    // Drops what was written and not settled, and runs.
-    fn start(&mut self)
-        ensures { held self.new ≡ started (held self.old) }
-    {
-        let n = self.count();
-        clear_marks(self.marks, n);
-        self.running = true;
-    }
-
-    // Marks a page as written and not settled.
-    fn mark(&mut self, page: usize)
-        requires { page < length self.old.marks.now }
-        ensures { held self.new ≡ marking (held self.old) page }
-    {
-        self.marks[page] = 1;
-    }
-
-    // Writes a page and marks it.
-    fn store(&mut self, page: usize, buf: &[u8])
-        requires { (page * 256 + 256 ≤ length self.old.written.now) × ((page < length self.old.marks.now) × (length buf.now ≡ 252)) }
-        ensures { held self.new ≡ stored (held self.old) page buf.now }
-    {
-        let at = page * RAW_SIZE;
-        seal(&mut self.written[at..at + RAW_SIZE], buf);
-        self.mark(page);
     }
 }
 
@@ -186,18 +63,17 @@ impl<'a> Device for Disk<'a> {
     ghost sound = { λ d _. held_sound (held d) };
 
     fn page_count(&self) -> usize {
-        self.count()
+        self.images.count()
     }
 
     fn read(&mut self, page: usize, buf: &mut [u8]) -> Result<(), DeviceFault>
         ensures does { Does Agrees meant (reads page buf.old buf.new) self.old result self.new }
         ensures exact { ReadTo (held self.old) page buf.old result (held self.new) }
     {
-        gate(self.count(), page, buf.len(), self.running)?;
+        gate(self.images.count(), page, buf.len(), self.running)?;
         self.count_call()?;
-        if !self.show(page, buf) {
-            return Err(DeviceFault::PageSpoiled);
-        }
+        let shown = self.images.page(page).ok_or(DeviceFault::PageSpoiled)?;
+        buf.copy_from_slice(shown);
         Ok(())
     }
 
@@ -205,8 +81,8 @@ impl<'a> Device for Disk<'a> {
         ensures does { Does Agrees meant (writes page buf.now) self.old result self.new }
         ensures exact { WriteTo (held self.old) page buf.now result (held self.new) }
     {
-        gate(self.count(), page, buf.len(), self.running)?;
-        self.store(page, buf);
+        gate(self.images.count(), page, buf.len(), self.running)?;
+        self.images.store(page, buf);
         self.count_call()
     }
 
@@ -218,7 +94,7 @@ impl<'a> Device for Disk<'a> {
             return Err(DeviceFault::PowerLost);
         }
         self.count_call()?;
-        self.settle_all();
+        self.images.settle(&[Letter::New], 0);
         Ok(())
     }
 
@@ -227,7 +103,8 @@ impl<'a> Device for Disk<'a> {
         ensures exact { RestartTo (held self.old) result (held self.new) }
     {
         self.count_call()?;
-        self.start();
+        self.images.clear();
+        self.running = true;
         Ok(())
     }
 }

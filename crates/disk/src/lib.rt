@@ -2,10 +2,9 @@
 #![tactic(auto)]
 
 mod arming;
-mod cut;
 mod disk;
+mod images;
 mod raw;
-mod sweep;
 
 pub use arming::ArmFault;
 pub use disk::Disk;

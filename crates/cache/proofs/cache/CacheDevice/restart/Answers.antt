@@ -5,5 +5,5 @@ use Rattle.cache.proofs.cache.CacheDevice.restart.Goals as goal
 
 pub returns : goal.returns
 returns g c =
-    let p = passed g.D.Device.agrees g.D.Device.meaning c.args.self.now restarts c.restart-r.result c.restart-r.new.self c.revive.new.self refl c.revive.ensures c.restart-r.ensures.does in
-    record { does = p.0; calls = p.1; kept = p.2 }
+    let p = passed g.D.Device.agrees g.D.Device.meaning c.args.self.now restarts c.restart-r.result c.restart-r.new.self c.revive.new.self refl c.revive.ensures.revived c.restart-r.ensures.does in
+    rw c.revive.ensures.same (record { does = p.0; calls = p.1; kept = p.2 })

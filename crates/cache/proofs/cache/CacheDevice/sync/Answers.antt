@@ -12,5 +12,5 @@ returns-in_err-running g c =
 
 pub returns : goal.returns
 returns g c =
-    let p = passed g.D.Device.agrees g.D.Device.meaning c.args.self.now syncs c.sync-r.result c.sync-r.new.self c.hear.new.self c.in_ok-running.ensures c.hear.ensures c.sync-r.ensures.does in
-    record { does = p.0; calls = p.1; kept = p.2 }
+    let p = passed g.D.Device.agrees g.D.Device.meaning c.args.self.now syncs c.sync-r.result c.sync-r.new.self c.hear.new.self c.in_ok-running.ensures c.hear.ensures.heard c.sync-r.ensures.does in
+    rw c.hear.ensures.same (record { does = p.0; calls = p.1; kept = p.2 })

@@ -12,5 +12,5 @@ returns-in_err-running g c =
 
 pub returns : goal.returns
 returns g c =
-    let p = group_passed g.D.Device.agrees g.D.Device.meaning c.args.self.now discards c.discard-r.result c.discard-r.new.self c.forget.new.self c.in_ok-running.ensures c.forget.ensures g.D.GroupDevice.grouped c.discard-r.ensures.does in
-    record { does = p.0; calls = p.1; kept = p.2 }
+    let p = group_passed g.D.Device.agrees g.D.Device.meaning c.args.self.now discards c.discard-r.result c.discard-r.new.self c.forget.new.self c.in_ok-running.ensures c.forget.ensures.forgot g.D.GroupDevice.grouped c.discard-r.ensures.does in
+    rw c.forget.ensures.same (record { does = p.0; calls = p.1; kept = p.2 })

@@ -6,19 +6,19 @@ use Rattle.cache.proofs.cache.CacheGroupDevice.read.Goals as goal
 pub returns-in_err-gate : goal.returns-in_err-gate
 returns-in_err-gate g c =
     let q = err_from_is_err_and c.from_residual.result c.from_residual.ensures.1 in
-    let p = group_refused_read g.D.Device.agrees g.D.Device.meaning c.args.self.now c.page_count.result c.args.page c.args.buf.now c.page_count.ensures c.in_err-gate.field-0.0 c.in_err-gate.ensures g.D.GroupDevice.grouped in
+    let p = group_refused_read g.D.Device.agrees g.D.Device.meaning c.args.self.now c.page_count.result c.args.page c.args.buf.now c.page_count.ensures c.in_err-gate.field-0.0 (rw c.up.ensures at c.in_err-gate.ensures) g.D.GroupDevice.grouped in
     rw (q.1, q.2) (record { does = p.0; calls = p.1; kept = p.2; still = same_still g.D.Device.agrees g.D.Device.meaning c.args.self.now c.args.page })
 
-pub returns-then-copy_kept : goal.returns-then-copy_kept
-returns-then-copy_kept g c =
-    let there = c.copy_kept.ensures.there c.if-copy_kept.true in
-    let gate = c.in_ok-gate.ensures in
-    let p = group_kept_read g.D.Device.agrees g.D.Device.meaning c.args.self.now c.page_count.result c.args.page c.args.buf.now c.page_count.ensures gate.0 gate.1 gate.2 there.0 c.copy_kept.new.buf there.1 g.D.GroupDevice.grouped in
-    record { does = p.0; calls = p.1; kept = p.2; still = same_still g.D.Device.agrees g.D.Device.meaning c.args.self.now c.args.page }
+pub returns-in-Some : goal.returns-in-Some
+returns-in-Some g c =
+    let there = c.in-Some.ensures in
+    let gate = rw c.up.ensures at c.in_ok-gate.ensures in
+    let p = group_kept_read g.D.Device.agrees g.D.Device.meaning c.args.self.now c.page_count.result c.args.page c.args.buf.now c.page_count.ensures gate.0 gate.1 gate.2 there.0 c.in-Some.bytes.now there.1 g.D.GroupDevice.grouped in
+    rw c.copy_from_slice.ensures.after (record { does = p.0; calls = p.1; kept = p.2; still = same_still g.D.Device.agrees g.D.Device.meaning c.args.self.now c.args.page })
 
 pub returns : goal.returns
 returns g c =
-    let absent = c.copy_kept.ensures.absent c.if-copy_kept.false in
-    let p = group_passed g.D.Device.agrees g.D.Device.meaning c.args.self.now (reads c.args.page c.copy_kept.new.buf c.read-r.new.buf) c.read-r.result c.read-r.new.self c.note.new.self
-    c.in_ok-gate.ensures.2 c.note.ensures g.D.GroupDevice.grouped c.read-r.ensures.does in
-    record { does = rw (← absent.1) p.0; calls = p.1; kept = p.2; still = absent_still g.D.Device.agrees g.D.Device.meaning c.args.self.now c.args.page _ absent.0 }
+    let absent = c.in_default.ensures in
+    let p = group_passed g.D.Device.agrees g.D.Device.meaning c.args.self.now (reads c.args.page c.args.buf.now c.read-r.new.buf) c.read-r.result c.read-r.new.self c.note.new.self
+    (rw c.up.ensures at c.in_ok-gate.ensures).2 c.note.ensures.noted g.D.GroupDevice.grouped c.read-r.ensures.does in
+    rw c.note.ensures.same (record { does = p.0; calls = p.1; kept = p.2; still = absent_still g.D.Device.agrees g.D.Device.meaning c.args.self.now c.args.page _ absent })

@@ -12,5 +12,5 @@ returns-in_err-running g c =
 
 pub returns : goal.returns
 returns g c =
-    let p = group_passed g.D.Device.agrees g.D.Device.meaning c.args.self.now syncs c.sync-r.result c.sync-r.new.self c.hear.new.self c.in_ok-running.ensures c.hear.ensures g.D.GroupDevice.grouped c.sync-r.ensures.does in
-    record { does = p.0; calls = p.1; kept = p.2 }
+    let p = group_passed g.D.Device.agrees g.D.Device.meaning c.args.self.now syncs c.sync-r.result c.sync-r.new.self c.hear.new.self c.in_ok-running.ensures c.hear.ensures.heard g.D.GroupDevice.grouped c.sync-r.ensures.does in
+    rw c.hear.ensures.same (record { does = p.0; calls = p.1; kept = p.2 })

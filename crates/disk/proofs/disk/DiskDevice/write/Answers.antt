@@ -1,19 +1,11 @@
-use Rattle.std.proofs.Common.{subst}
-use Rattle.std.proofs.lemmas.Result.{err_from_is_err_and}
-use Rattle.disk.specs.Held.{Held, held, Counts}
-use Rattle.disk.proofs.ExactLaws.{write_refused, write_counted}
+use Rattle.std.proofs.Common.{◌<◌, arith}
+use Rattle.disk.specs.Held.{held, count}
+use Rattle.disk.proofs.CallLaws.{write_counted}
 use Rattle.disk.proofs.disk.DiskDevice.write.Goals as goal
 
-pub returns-in_err-gate : goal.returns-in_err-gate
-returns-in_err-gate c =
-    let p = err_from_is_err_and c.from_residual.result c.from_residual.ensures.1 in
-    let h = write_refused (held c.args.self.now) c.args.page c.count.result c.args.buf.now c.count.ensures.count c.in_err-gate.field-0.0 c.in_err-gate.ensures in
-    rw (p.1, p.2) (record { does = λ _. record { agrees = tt; means = h.0 }; exact = h.1 })
-
-pub returns : goal.returns
-returns c =
+pub returns-clause-does : goal.returns-clause-does
+returns-clause-does c =
     let g = c.in_ok-gate.ensures in
-    let y = held c.count_call.new.self in
-    let counts = subst (λ (v : Held). Counts v c.count_call.result y) c.store.ensures c.count_call.ensures in
-    let h = write_counted (held c.args.self.now) c.args.page c.count.result c.args.buf.now c.count.ensures.count g.0 g.1 g.2 y c.count_call.result counts in
-    record { does = λ _. record { agrees = tt; means = h.0 }; exact = h.1 }
+    let lt : c.args.page < count (held c.args.self.now) = omega (arith, g.0, c.count.ensures) in
+    let h = rw (c.store.ensures.settled, c.store.ensures.written, c.store.ensures.marks) at c.count_call.ensures in
+    λ _. record { agrees = tt; means = write_counted (held c.args.self.now) (held c.count_call.new.self) c.args.page c.args.buf.now lt g.1 g.2 c.count_call.result h }
