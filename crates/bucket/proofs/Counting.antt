@@ -1,14 +1,16 @@
 -- The number of records, and whether a key is among them.
-use Rattle.std.proofs.Common.{◌≡◌, ℕ, ◌+◌, true, false, not, List, [], ◌∷◌, length, filter, sym, refl, ap, ◌∙◌, subst, inl, ⊎_elim, arith}
+use Rattle.std.proofs.Common.{◌≡◌, ℕ, ◌+◌, Bool, true, false, not, List, [], ◌∷◌, length, filter, Option, Some, None, MatchBool, MatchOption, sym, refl, ap, ◌∙◌, subst, inl, ⊎_elim, arith}
 use Rattle.std.proofs.lemmas.List.Filters.{length-filter_both}
 use Rattle.std.proofs.lemmas.Bool.{cases_Bool, both_ways, cond-true, cond-false}
+use Rattle.std.specs.Option.{is_some}
 use Rattle.keys.specs.Rule.{Rule, Lawful}
 use Rattle.tree.specs.Prefix.{pre}
 use Rattle.tree.specs.Members.{In}
 use Rattle.tree.specs.Maps.{Rec, Valid, Apart, Change, Put, Delete, key_of, new_of, made}
 use Rattle.tree.proofs.Sets.{in_right}
 use Rattle.tree.proofs.Mapping.{all_of, all_in}
-use Rattle.pages.specs.Records.{FoundAt}
+use Rattle.pages.specs.declared.records.Record.{Record}
+use Rattle.pages.specs.Records.{FoundAt, viewed}
 use Rattle.bucket.specs.Sifts.{LacksKey, HasKey}
 use Rattle.bucket.specs.Laws.{AbsentThere, CountedThere}
 
@@ -16,6 +18,12 @@ module _ (R : Rule) where
   -- a search that found a record
   pub found_key : (k : List ℕ) (rs : List Rec) (at : ℕ) (x : Rec) → FoundAt R.same k rs at x → HasKey R k rs
   found_key k rs at x f = (x, subst (In x) (sym f.split) (in_right x f.before (x ∷ f.after) (inl refl)), f.hit)
+
+  -- a search for the key tells whether there is one
+  pub key_told : (k : List ℕ) (rs : List Rec) (o : Option (ℕ × Record)) (b : Bool) → b ≡ is_some o
+      → MatchOption o (LacksKey R k rs) (λ p. FoundAt R.same k rs p.0 (viewed p.1)) → MatchBool b (HasKey R k rs) (LacksKey R k rs)
+  key_told k rs None b e f = subst (λ t. MatchBool t (HasKey R k rs) (LacksKey R k rs)) (sym e) f
+  key_told k rs (Some p) b e f = subst (λ t. MatchBool t (HasKey R k rs) (LacksKey R k rs)) (sym e) (found_key k rs p.0 (viewed p.1) f)
 
   -- the records whose key is the same as k
   abbrev spelt : List ℕ → List Rec → List Rec

@@ -1,5 +1,7 @@
 -- A walk over the records of a bucket that writes those that a change leaves into a page.
-use Rattle.std.proofs.Common.{◌≡◌, ℕ, ◌+◌, ◌<◌, ◌≤◌, Bool, true, false, List, [], ◌∷◌, ◌++◌, length, Some, None, sum_by, filter, Option, sym, refl, ap, ◌∙◌, subst, arith, length-append, MatchOption}
+use Rattle.std.proofs.Common.{◌≡◌, ℕ, ◌+◌, ◌<◌, ◌≤◌, Bool, true, false, List, [], ◌∷◌, ◌++◌, length, Some, sum_by, filter, Option, sym, refl, ap, ◌∙◌, subst, arith, length-append, Result, Ok, Err}
+use Rattle.std.specs.Result.{MatchResult}
+use Rattle.layout.specs.declared.NoRoom.{NoRoom}
 use Rattle.std.proofs.lemmas.List.{append_assoc, append-nil}
 use Rattle.std.proofs.lemmas.Bool.{cond-true, cond-false}
 use Rattle.layout.specs.Envelope.{envelope, Enveloped, Extended}
@@ -9,15 +11,21 @@ use Rattle.pages.specs.declared.records.Record.{Record}
 use Rattle.pages.specs.Records.{viewed, record_bytes, records, bucket_body, BucketIs}
 use Rattle.pages.proofs.Codec.{record_length, records_append, records_length}
 use Rattle.pages.proofs.Walks.{one_more, no_more, shorter}
-use Rattle.pages.proofs.Changed.{append_made}
 use Rattle.bucket.specs.Sifts.{new_in}
 
 -- a bucket's page is by layout
 pub bucket_enveloped : (p : List ℕ) (d : ℕ) (rs : List Rec) → BucketIs p d rs → Enveloped p (bucket_body d rs)
 bucket_enveloped p d rs b = record { fits = omega (arith, b.fits); is = b.is }
 
--- one record more, where there is room
-pub record_added : (p p' : List ℕ) (d : ℕ) (rs : List Rec) (x : Rec) (r : Bool) → BucketIs p d rs → length (records rs) + size x ≤ 248
+-- one record more, in the body of a page
+append_made : (p : List ℕ) (d : ℕ) (bs : List ℕ) (rs : List Rec) (x : Rec) → bs ≡ records rs → Enveloped p ((d ∷ bs) ++ record_bytes x) → BucketIs p d (rs ++ x ∷ [])
+append_made p d bs rs x e v =
+    let a : bs ++ record_bytes x ≡ records (rs ++ x ∷ []) =
+    ap (λ (l : List ℕ). l ++ record_bytes x) e ∙ ap (λ (l : List ℕ). records rs ++ l) (sym (append-nil (record_bytes x))) ∙ sym (records_append rs (x ∷ [])) in
+    record { fits = omega (arith, v.fits, ap length a); is = v.is ∙ ap (λ (l : List ℕ). envelope (d ∷ l)) a }
+
+-- the same, where there is room
+pub record_added : (p p' : List ℕ) (d : ℕ) (rs : List Rec) (x : Rec) (r : Result (Unit {0}) NoRoom) → BucketIs p d rs → length (records rs) + size x ≤ 248
     → ((body : List ℕ) → Enveloped p body → Extended p' body (record_bytes x) r) → BucketIs p' d (rs ++ x ∷ [])
 record_added p p' d rs x r b room ext =
     append_made p' d (records rs) rs x refl
@@ -32,7 +40,7 @@ module _ (t : Rec → Bool) (d : ℕ) where
   pub filled_none : (bs page : List ℕ) → BucketIs page d [] → Filled bs bs page
   filled_none bs page b = λ rs r short. ([], rs, r, refl, b, omega arith)
 
-  pub filled_kept : (bs left after : List ℕ) (x : Rec) (page page' : List ℕ) (done : Bool) → left ≡ record_bytes x ++ after → t x ≡ true
+  pub filled_kept : (bs left after : List ℕ) (x : Rec) (page page' : List ℕ) (done : Result (Unit {0}) NoRoom) → left ≡ record_bytes x ++ after → t x ≡ true
       → ((body : List ℕ) → Enveloped page body → Extended page' body (record_bytes x) done) → Filled bs left page → Filled bs after page'
   filled_kept bs left after x page page' done e h ext c = λ rs r short.
       let k = c rs r short in
@@ -75,9 +83,9 @@ own_full o x e p p' d rs b ext =
     subst (λ (v : Option Record). 248 < sum_by size rs + sum_by size (new_in v)) (sym e) (omega (arith, f.0, record_length (viewed x), records_length rs))
 
 -- the records of two siblings, one behind the other
-pub joined_made : (o : Option (List ℕ)) (d : ℕ) (front back : List ℕ) (xs ys : List Rec) → front ≡ records xs → back ≡ records ys
-    → MatchOption o (248 < length front + length back) (λ p. Enveloped p (d ∷ (front ++ back))) → MatchOption o (248 < sum_by size xs + sum_by size ys) (λ p. BucketIs p d (xs ++ ys))
-joined_made None d front back xs ys f b h = omega (arith, h, ap length f, ap length b, records_length xs, records_length ys)
-joined_made (Some p) d front back xs ys f b v =
+pub joined_made : (o : Result (List ℕ) NoRoom) (d : ℕ) (front back : List ℕ) (xs ys : List Rec) → front ≡ records xs → back ≡ records ys
+    → MatchResult o (λ p. Enveloped p (d ∷ (front ++ back))) (λ _. 248 < length front + length back) → MatchResult o (λ p. BucketIs p d (xs ++ ys)) (λ _. 248 < sum_by size xs + sum_by size ys)
+joined_made (Err _) d front back xs ys f b h = omega (arith, h, ap length f, ap length b, records_length xs, records_length ys)
+joined_made (Ok p) d front back xs ys f b v =
     let a : front ++ back ≡ records (xs ++ ys) = (λ i. f i ++ b i) ∙ sym (records_append xs ys) in
     record { fits = omega (arith, v.fits, ap length a); is = v.is ∙ ap (λ (l : List ℕ). envelope (d ∷ l)) a }
