@@ -1,12 +1,13 @@
 -- The record of a key: in a map, in the bucket of its hash, and in the pages.
-use Rattle.std.proofs.Common.{◌≡◌, ℕ, ◌+◌, ◌-◌, ◌/◌, ◌%◌, ◌^◌, ◌<◌, ◌≤◌, min, Bool, true, false, cond, eqb, ◌⊎◌, List, [], ◌∷◌, ◌++◌, length, drop, IfSome, Some, None, Option, sym, refl, ap, ◌∙◌, subst, inl, inr, ⊎_elim, arith, pow_mono, MatchOption}
+use Rattle.std.proofs.Common.{◌≡◌, ℕ, ◌+◌, ◌/◌, ◌%◌, ◌^◌, ◌<◌, ◌≤◌, min, Bool, true, false, cond, eqb, ◌⊎◌, List, [], ◌∷◌, length, IfSome, Some, None, Option, sym, refl, ap, ◌∙◌, subst, inl, inr, ⊎_elim, arith, pow_mono, MatchOption}
 use Rattle.std.specs.List.{AllByRecursion}
 use Rattle.std.proofs.lemmas.Bool.{both_ways, cases_Bool, cond-true, cond-false, and_parts, leb-true, false≢true}
-use Rattle.device.specs.Meaning.{State, bytes}
+use Rattle.device.specs.Meaning.{State, bytes, spoiled}
 use Rattle.keys.specs.Rule.{Rule, Lawful}
 use Rattle.layout.specs.Envelope.{envelope}
 use Rattle.tree.specs.declared.classes.ClassRow.{ClassRow}
-use Rattle.tree.specs.Classes.{row_at, scan, mark, draft}
+use Rattle.tree.specs.declared.classes.Class.{Class}
+use Rattle.tree.specs.Classes.{row, row_at, scan, mark, draft}
 use Rattle.tree.specs.Members.{In}
 use Rattle.tree.specs.Prefix.{pre}
 use Rattle.tree.specs.Loads.{hashed}
@@ -19,13 +20,11 @@ use Rattle.pages.specs.Bytes.{root_body, entry_at}
 use Rattle.pages.specs.Records.{records, BucketIs, BucketRead, Fine, FoundAt, within}
 use Rattle.pages.specs.Images.{shows, root, entry, AllMet, WellFormed}
 use Rattle.pages.specs.Laws.{Fits}
-use Rattle.pages.specs.Reads.{PageRead}
-use Rattle.pages.proofs.Checking.{one_spoiled, directories_spoiled}
 use Rattle.pages.proofs.Envelopes.{bucket_one}
 use Rattle.pages.proofs.Forming.{formed_to}
 use Rattle.pages.proofs.Gathering.{spoiled_bucket}
 use Rattle.access.specs.declared.lookup.Found.{Found}
-use Rattle.access.specs.Seek.{seek, told, filled, found_of}
+use Rattle.access.specs.Seek.{seek, told, filled, found_of, letter_in}
 
 -- ---- in a map
 
@@ -66,7 +65,7 @@ found_in same key rs at x f = subst (In x) (sym f.split) (in_right x f.before (x
 
 row_short : (o : Option ClassRow) (n : ℕ) → IfSome o (λ row. row.longest ≤ 120) → within o n ≡ true → n ≤ 120
 row_short None n l h = absurd (false≢true h)
-row_short (Some row) n l h = omega (arith, leb-true n row.longest h)
+row_short (Some r) n l h = omega (arith, leb-true n r.longest h)
 
 row_longest : (a b c : Bool) → IfSome (cond a (Some scan) (cond b (Some mark) (cond c (Some draft) None))) (λ row. row.longest ≤ 120)
 row_longest true b c = omega arith
@@ -80,8 +79,13 @@ fine_short valid x f =
     row_short (row_at x.class) (length x.value) (row_longest (eqb x.class 1) (eqb x.class 2) (eqb x.class 3))
     (and_parts (within (row_at x.class) (length x.value)) _ f).0
 
-pub front_filled : (n : ℕ) (xs ys v : List ℕ) → ys ≡ v → n ≡ length v → ys ++ drop (n - 0) (drop 0 xs) ≡ v ++ drop (length v) xs
-front_filled n xs ys v e l = let z : n - 0 ≡ length v = omega arith in λ i. e i ++ drop (z i) xs
+-- the letter of a class that is listed
+pub class_letter : (o : Option ClassRow) (c : Class) (r : ClassRow) → o ≡ Some (row c) → r ≡ row c → r.letter ≡ letter_in o
+class_letter o c r e f = ap (λ (z : ClassRow). z.letter) f ∙ ap letter_in (sym e)
+
+-- a record that may stand in a page is of a class that is listed
+pub fine_listed : (valid : List ℕ → Bool) (x : Rec) → Fine valid x → row_at x.class ≡ None → ⊥
+fine_listed valid x f e = false≢true (ap (λ o. within o (length x.value)) (sym e) ∙ (and_parts (within (row_at x.class) (length x.value)) _ f).0)
 
 -- ---- in an image
 
@@ -91,19 +95,9 @@ prefix_small hash dep i h d e = let p : 2 ^ dep ≤ 2 ^ 8 = pow_mono d in omega 
 
 module _ (R : Rule) (n : ℕ) (f : ℕ → State) where
   -- a page of the image that is by some layout was read
-  shown_root : (buf p : List ℕ) (b : Bool) → PageRead 0 buf p f b → AllMet R n f → f 0 ≡ bytes p
-  shown_root buf p true r m = r.shown refl
-  shown_root buf p false r m = absurd (one_spoiled R n f (r.not_shown refl) m.first)
-
-  shown_directory : (j : ℕ) (buf p : List ℕ) (b : Bool) → j < 4 → PageRead (1 + j) buf p f b → AllMet R n f → f (1 + j) ≡ bytes p
-  shown_directory j buf p true l r m = r.shown refl
-  shown_directory j buf p false l r m = absurd (directories_spoiled f j l (r.not_shown refl) m.second.layout)
-
-  pub home_is : (hash dep i : ℕ) (b c : Bool) (buf p q : List ℕ) → PageRead 0 buf p f b → PageRead (1 + i / 64) p q f c → i < 256
+  pub home_is : (hash dep i : ℕ) (p q : List ℕ) → f 0 ≡ bytes p → f (1 + i / 64) ≡ bytes q
       → ((x : Root) → p ≡ envelope (root_body x) → dep ≡ min x.depth 8) → i ≡ pre 32 hash dep → AllMet R n f → entry_at q (i % 64) ≡ entry f (pre 32 hash (root f).depth)
-  home_is hash dep i b c buf p q r s l d e m =
-      let zero = shown_root buf p b r m in
-      let one = shown_directory (i / 64) p q c (omega arith) s m in
+  home_is hash dep i p q zero one d e m =
       let t : dep ≡ (root f).depth = d (root f) (ap shows (sym zero) ∙ m.first.layout) ∙ omega (arith, m.first.deep) in
       let u : i ≡ pre 32 hash (root f).depth = e ∙ ap (pre 32 hash) t in
       ap (λ (z : List ℕ). entry_at z (i % 64)) (ap shows (sym one)) ∙ ap (entry f) u
@@ -156,9 +150,8 @@ module _ (R : Rule) (law : Lawful R) (n : ℕ) (f : ℕ → State) (m : List Rec
       ap (λ z. pre 32 z (depths home)) e ∙ sym (pre_pre 32 (R.hash k) w (depths home) (fits.holds.short home home_below) (omega (arith, deep))) in
       (fits.holds.has home home_below x).1 i t
 
-  page_shown : (b : Bool) (buf page : List ℕ) → PageRead (entry f home) buf page f b → f (entry f home) ≡ bytes page
-  page_shown true buf page r = r.shown refl
-  page_shown false buf page r = absurd (spoiled_bucket f (entry f home) (depths home) (recs home) (r.not_shown refl) bucket)
+  pub home_shown : (p : ℕ) → p ≡ entry f home → f p ≡ spoiled → ⊥
+  home_shown p e s = spoiled_bucket f (entry f home) (depths home) (recs home) (subst (λ q. f q ≡ spoiled) e s) bucket
 
   -- what is told of a bucket's page is told of the map
   bucket_told : (out out' : List ℕ) (o : Option Found)
@@ -171,10 +164,10 @@ module _ (R : Rule) (law : Lawful R) (n : ℕ) (f : ℕ → State) (m : List Rec
       let s : seek R k m ≡ Some x = seek_some R law k valid m x formed.map.valid formed.map.apart (from_bucket x i) h in
       (ap (λ (y : Found). Some y) e ∙ ap told (sym s), b ∙ ap (λ (y : Option Rec). filled y out) (sym s))
 
-  pub look_told : (p : ℕ) (b : Bool) (buf page : List ℕ) → p ≡ entry f home → PageRead p buf page f b → (out out' : List ℕ) (o : Option Found) → 120 ≤ length out
+  pub look_told : (p : ℕ) (page : List ℕ) → p ≡ entry f home → f p ≡ bytes page → (out out' : List ℕ) (o : Option Found) → 120 ≤ length out
       → ((d : ℕ) (rs : List Rec) → BucketIs page d rs → AllByRecursion (Fine R.valid) rs → 120 ≤ length out
       → MatchOption o (AllByRecursion (λ x. R.same k x.key ≡ false) rs × (out' ≡ out)) (λ g. (x : Rec) × In x rs × (R.same k x.key ≡ true) × (g ≡ found_of x) × (out' ≡ filled (Some x) out)))
       → (o ≡ told (seek R k m)) × (out' ≡ filled (seek R k m) out)
-  look_told p b buf page e r out out' o l c =
-      let s = page_shown b buf page (subst (λ q. PageRead q buf page f b) e r) in
+  look_told p page e r out out' o l c =
+      let s = subst (λ q. f q ≡ bytes page) e r in
       bucket_told out out' o (c (depths home) (recs home) (subst (λ s. BucketIs (shows s) (depths home) (recs home)) s bucket) all_fine l)
