@@ -1,5 +1,5 @@
 -- A recover: with a book, and without one.
-use Rattle.std.proofs.Common.{◌≡◌, ℕ, ◌≤◌, false, List, Some, None, Ok, Err, Option, sym, refl, subst, inl, inr, ⊎_elim, arith}
+use Rattle.std.proofs.Common.{◌≡◌, ℕ, ◌≤◌, false, List, Some, None, Ok, Err, Option, MatchResult, sym, refl, subst, inl, inr, ⊎_elim, arith}
 use Rattle.device.specs.declared.DeviceFault.{DeviceFault}
 use Rattle.device.specs.Meaning.{State, Meaning, Grouped}
 use Rattle.device.specs.Numbers.{number}
@@ -10,6 +10,10 @@ use Rattle.keys.specs.Rule.{Rule, Lawful}
 use Rattle.tree.specs.Maps.{Rec}
 use Rattle.pages.specs.declared.root.Condition.{Condition}
 use Rattle.pages.specs.declared.root.Condition.TheVariants.{RootPage, DirectoryPages, UsedEntries, BucketPages, Placement, Tree}
+use Rattle.pages.specs.declared.root.Root.{Root}
+use Rattle.pages.specs.declared.fault.CheckFault.{CheckFault}
+use Rattle.pages.specs.declared.fault.CheckFault.TheVariants.{Broken, Device as Faulty}
+use Rattle.pages.specs.Checks.{decision, Decided}
 use Rattle.pages.specs.Images.{root, AllMet, Meets, Lowest, WellFormed}
 use Rattle.pages.specs.Reads.{Kept, Failed, Shows, Seen}
 use Rattle.pages.proofs.Readings.{some_held}
@@ -17,7 +21,7 @@ use Rattle.access.proofs.Making.{restarted}
 use Rattle.store.specs.declared.kinds.Phase.TheVariants.{Idle}
 use Rattle.store.specs.declared.kinds.StoreFault.TheVariants.{NotWellFormed, Device}
 use Rattle.store.specs.declared.store.Store.{Store}
-use Rattle.store.specs.Replies.{recover, done, refused_by, eleven}
+use Rattle.store.specs.Replies.{recover, done, refused_by, refused_check, eleven}
 use Rattle.store.specs.Book.{Book, Turns, Fair, stood, lost, stopped, recovered, opened}
 use Rattle.store.specs.Agree.{Keeps, Faithful, Unopened}
 use Rattle.store.specs.Clauses.{after, Opens}
@@ -170,3 +174,19 @@ module _ {D K : Type 0} (R : Rule) (law : Lawful R) (agrees : D → Type 0) (mea
           joined (to_e o.below) k.calls,
           (q.0, c, q.1, refl, seen j q.0 (shows_end o.below), record { below = k.ready.below; stops = o.stops }, record { counter = refl; changes = refl }),
         )
+
+    -- it answered no numbers: power was lost in it, or a condition is broken
+    abbrev Failing : D → ℕ → CheckFault → Type 0
+    Failing h n x =
+        MatchResult (decision {T = Root} (Err x)) (λ c. Kept agrees meaning grouped n e h × Seen (meaning e) (λ j i. Decided R j i c)) (λ f. (number f ≡ 11) × Failed agrees meaning grouped n e h)
+
+    pub check_fails : (h : D) (n : ℕ) (x : CheckFault) → Failing h n x → (buf : List ℕ) (b : Book) → F s b
+        → (b' : Book) × Turns R b recover buf (refused_by (refused_check x)) buf b' × F (after (refused_by (refused_check x)) (over s h)) b'
+        × GroupCalls meaning grouped (eleven (refused_by (refused_check x))) s.device h
+    check_fails h n (Broken c) q buf b a = absurd (check_never c q.1 b a)
+    check_fails h n (Faulty f) q buf b a = check_lost h f n q.0 q.1 buf b a
+
+    pub check_denies : (h : D) (n : ℕ) (x : CheckFault) → Failing h n x → Unopened agrees s
+        → GroupCalls meaning grouped (eleven (refused_by (refused_check x))) s.device h × Opens R agrees meaning grouped s (refused_by (refused_check x)) (after (refused_by (refused_check x)) (over s h))
+    check_denies h n (Broken c) q o = check_refuses h n c q.0 q.1 o
+    check_denies h n (Faulty f) q o = check_unopened h f n q.0 q.1 o

@@ -1,7 +1,10 @@
 -- Calls and answers of a store, in the numbers and values that stand for them.
-use Rattle.std.specs.Prelude.{ℕ, Bool, false, List, Ok, Err, Result, ◌==◌}
+use Rattle.std.specs.Prelude.{ℕ, Bool, false, List, Option, None, Some, Ok, Err, Result, ◌==◌}
 use Rattle.device.specs.Numbers.{number}
 use Rattle.pages.specs.Images.{number_of}
+use Rattle.pages.specs.declared.root.Condition.{Condition}
+use Rattle.pages.specs.declared.fault.CheckFault.{CheckFault}
+use Rattle.pages.specs.declared.fault.CheckFault.TheVariants.{Broken, Device as Faulty}
 use Rattle.access.specs.declared.lookup.Found.{Found}
 use Rattle.store.specs.declared.kinds.StoreFault.{StoreFault}
 use Rattle.store.specs.declared.kinds.StoreFault.TheVariants.{KeyNotValid, ShortBuffer, NotRunning, KeyAbsent, TooFewPages, NotWellFormed, Device}
@@ -34,6 +37,16 @@ refusal KeyAbsent = 16
 refusal TooFewPages = 20
 refusal (NotWellFormed c) = 21
 refusal (Device f) = number f
+
+-- the refusal that a check's fault becomes
+abbrev pub refused_check : CheckFault → StoreFault
+refused_check (Broken c) = NotWellFormed c
+refused_check (Faulty f) = Device f
+
+-- the number of a condition; 0 for none
+abbrev pub condition_number : Option Condition → ℕ
+condition_number None = 0
+condition_number (Some c) = number_of c
 
 -- the number of the broken condition
 abbrev pub broken : StoreFault → ℕ

@@ -1,14 +1,14 @@
 //! The calls of a store, its answers, and its refusals.
 ghost use Rattle.std.specs.Prelude.{◌≡◌, ◌==◌};
 ghost use Rattle.store.specs.declared.kinds.StoreFault.TheVariants.{Device};
-ghost use Rattle.store.specs.Replies.{refusal, broken};
+ghost use Rattle.store.specs.Replies.{refusal, broken, condition_number, refused_check};
 
 use access::Found;
 use device::DeviceFault;
-use pages::Condition;
+use pages::{CheckFault, Condition};
 
 /// A store is stopped, idle, or open: a transaction is going on.
-#[derive(Clone, Copy)]
+#[derive(Clone, Copy, Debug, PartialEq, Eq)]
 pub enum Phase {
     Stopped,
     Idle,
@@ -16,7 +16,7 @@ pub enum Phase {
 }
 
 /// Why a call of a store is refused.
-#[derive(Clone, Copy)]
+#[derive(Clone, Copy, Debug, PartialEq, Eq)]
 pub enum StoreFault {
     /// The bytes are no key under the rule.
     KeyNotValid,
@@ -50,13 +50,13 @@ impl StoreFault {
         }
     }
 
-    /// The number of the broken condition, 1 to 6, where what stands is not well formed; else 0.
-    pub fn condition(self) -> u8
-        ensures { result ≡ broken self }
+    /// The broken condition, where what stands is not well formed.
+    pub fn condition(self) -> Option<Condition>
+        ensures { condition_number result ≡ broken self }
     {
         match self {
-            StoreFault::NotWellFormed(condition) => condition.number(),
-            _ => 0,
+            StoreFault::NotWellFormed(condition) => Some(condition),
+            _ => None,
         }
     }
 
@@ -64,7 +64,7 @@ impl StoreFault {
     pub(crate) fn is_loss(self) -> bool
         ensures { result ≡ (refusal self == 11) }
     {
-        self.number() == 11
+        matches!(self, StoreFault::Device(DeviceFault::PowerLost))
     }
 }
 
@@ -76,15 +76,26 @@ impl From<DeviceFault> for StoreFault {
     }
 }
 
+impl From<CheckFault> for StoreFault {
+    ghost from_gives = { λ f r. r ≡ refused_check f };
+
+    fn from(fault: CheckFault) -> StoreFault {
+        match fault {
+            CheckFault::Broken(condition) => StoreFault::NotWellFormed(condition),
+            CheckFault::Device(fault) => StoreFault::Device(fault),
+        }
+    }
+}
+
 /// A call of a store.
-#[derive(Clone, Copy)]
+#[derive(Clone, Copy, Debug, PartialEq, Eq)]
 pub enum Call<'a> {
     Get(&'a [u8]),
     Recover,
 }
 
 /// What an accepted call answers.
-#[derive(Clone, Copy)]
+#[derive(Clone, Copy, Debug, PartialEq, Eq)]
 pub enum Answer {
     Done,
     Got(Found),

@@ -69,17 +69,11 @@ impl<D: GroupDevice, K: KeyRule> Store<D, K> {
         if pages < FEWEST_PAGES {
             return Err(StoreFault::TooFewPages);
         }
-        match access::make_empty_store::<D, K>(&mut self.device, most_buckets(pages)) {
-            Ok(()) => {
-                self.phase = Phase::Idle;
-                self.changes = 0;
-                Ok(())
-            }
-            Err(fault) => {
-                self.phase = Phase::Stopped;
-                Err(StoreFault::from(fault))
-            }
-        }
+        self.phase = Phase::Stopped;
+        access::make_empty_store::<D, K>(&mut self.device, most_buckets(pages))?;
+        self.phase = Phase::Idle;
+        self.changes = 0;
+        Ok(())
     }
 
     /// A get on a store that is not stopped.
@@ -110,13 +104,9 @@ impl<D: GroupDevice, K: KeyRule> Store<D, K> {
             return Err(StoreFault::TooFewPages);
         }
         GroupDevice::restart(&mut self.device)?;
-        match pages::check_image::<D, K>(&mut self.device)? {
-            Ok(_) => {
-                self.phase = Phase::Idle;
-                Ok(Answer::Done)
-            }
-            Err(condition) => Err(StoreFault::NotWellFormed(condition)),
-        }
+        pages::check_image::<D, K>(&mut self.device)?;
+        self.phase = Phase::Idle;
+        Ok(Answer::Done)
     }
 
     /// A call, matched with the phase; a loss of power is not yet noted.
