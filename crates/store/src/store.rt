@@ -38,13 +38,6 @@ fn most_buckets(pages: usize) -> u16
     pages.saturating_sub(5).min(MOST_BUCKETS) as u16
 }
 
-/// A recover, as a call.
-fn recover_call() -> Call<'static>
-    ensures { event_of result ≡ recover }
-{
-    Call::Recover
-}
-
 impl<D: GroupDevice, K: KeyRule> Store<D, K> {
     /// A store over a device: stopped, until a format or a recover is accepted.
     pub fn new(device: D) -> Store<D, K>
@@ -153,8 +146,7 @@ impl<D: GroupDevice, K: KeyRule> Store<D, K> {
         ensures book { Follows K.KeyRule.rule D.Device.agrees D.Device.meaning D.GroupDevice.grouped recover self.old [] (done_or result) [] self.new }
         ensures alone { Alone K.KeyRule.rule D.Device.agrees D.Device.meaning D.GroupDevice.grouped recover self.old [] (done_or result) [] self.new }
     {
-        let mut none = [0u8; 0];
-        match self.step(recover_call(), &mut none)? {
+        match self.step(Call::Recover, &mut [])? {
             Answer::Done => Ok(()),
             Answer::Got(_) => unreachable(),
         }
