@@ -113,7 +113,7 @@ module _ {X : Type 0} (agrees : X → Type 0) (meaning : X → Meaning) (c : Cac
         )
 
     -- a kept page is read with no call below
-    module _ (within : p < count) (size : length buf ≡ 252) (t : up c.memory ≡ true) (i : ℕ) (bs : List ℕ) (at : At (table_of c.memory).slots i p bs) where
+    module _ (within : p < count) (size : length buf ≡ 252) (t : up c.memory ≡ true) (i : ℕ) (bs : List ℕ) (at : At (table_of c.memory).slots.items i p bs) where
       kept_means : Agreeing agrees meaning c → Read (cached meaning c) p buf (Ok tt) bs (cached meaning c)
       kept_means h = record { passes = record { within = omega arith; size = size }; running = t; value = h.1.faithful.shows i p bs at; same = same_self (cached meaning c) }
 
@@ -130,8 +130,8 @@ module _ {X : Type 0} (agrees : X → Type 0) (meaning : X → Meaning) (c : Cac
   pub same_still : (p : ℕ) → Resting agrees meaning p c c
   same_still p h k = refl
 
-  pub absent_still : (p : ℕ) (c' : Cache X) → Absent (table_of c.memory).slots p → Resting agrees meaning p c c'
-  absent_still p c' a h k = absurd (both_ways (has p (kept (table_of c.memory))) (absent_kept (table_of c.memory) p h.1.size a) k)
+  pub absent_still : (p : ℕ) (c' : Cache X) → Absent (table_of c.memory).slots.items p → Resting agrees meaning p c c'
+  absent_still p c' a h k = absurd (both_ways (has p (kept (table_of c.memory))) (absent_kept (table_of c.memory) p a) k)
 
   -- a cache that is down refuses a sync and a discard
   module _ (e : DeviceFault) (d : up c.memory ≡ false) (is : number e ≡ 11) where
