@@ -40,7 +40,7 @@ under_passes up m p buf h = record { within = h.within; size = h.size }
 
 -- a call that goes below, from the memory s and the meaning m to the memory s' and the meaning n
 module _ (s s' : Memory) (m n : Meaning) where
-  same_up : s' ≡ s → up s' ≡ (up s)
+  same_up : s' ≡ s → up s' ≡ up s
   same_up e = ap up e
 
   abbrev same_above : s' ≡ s → Same m n → Same (under (up s) m) (under (up s') n)
@@ -146,7 +146,7 @@ module _ (s s' : Memory) (m n : Meaning) (g : Agrees s m) where
 
   -- page p was read or written
   keep_agrees : (p : ℕ) (bs : List ℕ) → up s ≡ true → n.runs ≡ true → n.count ≡ m.count → p < m.count → n.shown p ≡ bytes bs
-      → ((i : ℕ) → i < m.count → i ≢ p → n.shown i ≡ m.shown i) → (up s' ≡ (up s)) × Keeps (table_of s) p bs (table_of s') → Agrees s' n
+      → ((i : ℕ) → i < m.count → i ≢ p → n.shown i ≡ m.shown i) → (up s' ≡ up s) × Keeps (table_of s) p bs (table_of s') → Agrees s' n
   keep_agrees p bs t b c w here others (u, k) = record {
     below = λ _. b;
     ordered = (placed_joined (table_of s) (table_of s') p bs g.ordered k.0 k.2 k.1).1;

@@ -57,7 +57,7 @@ Heard s r s' = MatchBool (lost r) (Fresh s') (s' ≡ s)
 
 -- after a read or a write of page p, which now has these bytes: it is kept where the call was accepted
 abbrev pub Noted : ℕ → List ℕ → Memory → Answer → Memory → Type 0
-Noted p bs s r s' = MatchResult r (λ _. (up s' ≡ (up s)) × Keeps (table_of s) p bs (table_of s')) (λ e. Heard s (Err e) s')
+Noted p bs s r s' = MatchResult r (λ _. (up s' ≡ up s) × Keeps (table_of s) p bs (table_of s')) (λ e. Heard s (Err e) s')
 
 -- after a restart: nothing is kept, and the cache runs where it was accepted
 pub record Revived (r : Answer) (s' : Memory) : Type 0 where
