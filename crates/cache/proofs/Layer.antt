@@ -1,7 +1,7 @@
 -- A cache from the meaning below: what a call that goes below does above, and that the cache still agrees and keeps its pages by the rule.
-use Rattle.std.proofs.Common.{◌≡◌, ℕ, ◌<◌, Bool, true, false, cond, ◌||◌, ◌≢◌, ◌⊎◌, List, [], length, get_or, Option, is_some, Some, None, Ok, Err, MatchBool, sym, refl, ap, ◌∙◌, subst, inr, ⊎_elim, arith}
+use Rattle.std.proofs.Common.{◌≡◌, ℕ, ◌<◌, ◌≤◌, Bool, true, false, cond, ◌||◌, ◌≢◌, ◌⊎◌, List, [], length, Option, is_some, Some, None, Ok, Err, MatchBool, sym, refl, ap, ◌∙◌, subst, inr, ⊎_elim, arith}
 use Rattle.std.specs.Option.{unwrap_or}
-use Rattle.std.proofs.lemmas.List.{length-set, get_or-replicate}
+use Rattle.std.proofs.lemmas.Option.{slice_get_within}
 use Rattle.std.proofs.lemmas.Bool.{both_ways, eq-eqb}
 use Rattle.device.specs.declared.DeviceFault.{DeviceFault}
 use Rattle.device.specs.declared.DeviceFault.TheVariants.{NoSuchPage, BufferSize, PowerLost, PageSpoiled, TooManyWaiting}
@@ -14,7 +14,7 @@ use Rattle.cache.specs.declared.memory.Memory.{Memory}
 use Rattle.cache.specs.Slots.{Slots, At, Keeps, Empty, no_page}
 use Rattle.cache.specs.Order.{kept, keeps}
 use Rattle.cache.specs.Keeping.{up, table_of, under, Faithful, Fresh, Agrees, Heard, Noted, Revived, After}
-use Rattle.cache.proofs.SlotLaws.{at_set}
+use Rattle.cache.proofs.SlotLaws.{at_put}
 use Rattle.cache.proofs.OrderLaws.{placed_joined}
 
 pub when_yes : (b : Bool) (A B : Type 0) → b ≡ true → MatchBool b A B → A
@@ -40,7 +40,7 @@ under_passes up m p buf h = record { within = h.within; size = h.size }
 
 -- a call that goes below, from the memory s and the meaning m to the memory s' and the meaning n
 module _ (s s' : Memory) (m n : Meaning) where
-  same_up : s' ≡ s → up s' ≡ (up s)
+  same_up : s' ≡ s → up s' ≡ up s
   same_up e = ap up e
 
   abbrev same_above : s' ≡ s → Same m n → Same (under (up s) m) (under (up s') n)
@@ -95,18 +95,14 @@ none_empty (Some t) e = absurd (both_ways true e refl)
 pub down_empty : (s : Memory) → up s ≡ false → Empty (table_of s)
 down_empty s e = none_empty s.table e
 
-empty_none : (t : Table) (i p : ℕ) (bs : List ℕ) → Empty t → At t.slots i p bs → ⊥
-empty_none t i p bs e a =
-    let k : get_or t.slots i None ≡ None = rw e (get_or-replicate 8 i None None a.within) in
-    let h = a.holds in
-    let z : ◌≡◌ {A = ℕ} 0 1 = cc in omega arith
+empty_none : (t : Table) (i p : ℕ) (bs : List ℕ) → Empty t → At t.slots.items i p bs → ⊥
+empty_none t i p bs e a = let h = slice_get_within t.slots.items i _ a.holds in let l : length t.slots.items ≡ 0 = rw e refl in omega arith
 
 -- a cache that keeps nothing agrees with any device that runs while it does
 pub empty_agrees : (s : Memory) (m : Meaning) → (up s ≡ true → m.runs ≡ true) → Empty (table_of s) → Agrees s m
 empty_agrees s m b e = record {
   below = b;
-  size = rw e refl;
-  ordered = record { filled = []; free = 8; row = rw e refl; start = inr (rw e refl) };
+  ordered = record { few = let l : length (table_of s).slots.items ≡ 0 = rw e refl in omega arith; start = inr (rw e refl) };
   faithful = record {
     shows = λ i p bs a. absurd (empty_none (table_of s) i p bs e a);
     within = λ i p bs a. absurd (empty_none (table_of s) i p bs e a);
@@ -124,8 +120,8 @@ faithful_same slots m n e al f = record {
   once = f.once;
 }
 
-faithful_keep : (t t' : Table) (m n : Meaning) (p : ℕ) (bs : List ℕ) → length t.slots ≡ 8 → n.count ≡ m.count → p < m.count → n.shown p ≡ bytes bs
-    → ((i : ℕ) → i < m.count → i ≢ p → n.shown i ≡ m.shown i) → Faithful t.slots m → Keeps t p bs t' → Faithful t'.slots n
+faithful_keep : (t t' : Table) (m n : Meaning) (p : ℕ) (bs : List ℕ) → length t.slots.items ≤ 8 → n.count ≡ m.count → p < m.count → n.shown p ≡ bytes bs
+    → ((i : ℕ) → i < m.count → i ≢ p → n.shown i ≡ m.shown i) → Faithful t.slots.items m → Keeps t p bs t' → Faithful t'.slots.items n
 faithful_keep t t' m n p bs len e w here others f (i, pl, is) = record {
   shows = λ j q cs a. ⊎_elim (λ k. ap n.shown k.1 ∙ here ∙ ap bytes (sym k.2)) (λ k. others q (f.within j q cs k.0) k.1 ∙ f.shows j q cs k.0) (split j q cs a);
   within = λ j q cs a. ⊎_elim (λ k. let h = k.1 in omega arith) (λ k. let h = f.within j q cs k.0 in omega arith) (split j q cs a);
@@ -135,27 +131,26 @@ faithful_keep t t' m n p bs len e w here others f (i, pl, is) = record {
       (split j q cs a);
 }
   where
-    split : (j q : ℕ) (cs : List ℕ) → At t'.slots j q cs → ((j ≡ i) × (q ≡ p) × (cs ≡ bs)) ⊎ (At t.slots j q cs × (q ≢ p))
-    split j q cs a = at_set t p i t'.next bs j q cs len f.once pl (subst (λ (x : Slots). At x j q cs) is a)
+    split : (j q : ℕ) (cs : List ℕ) → At t'.slots.items j q cs → ((j ≡ i) × (q ≡ p) × (cs ≡ bs)) ⊎ (At t.slots.items j q cs × (q ≢ p))
+    split j q cs a = at_put t p i t'.next bs j q cs len f.once pl (subst (λ (x : Slots). At x j q cs) is a)
 
 -- what each call leaves agrees
 module _ (s s' : Memory) (m n : Meaning) (g : Agrees s m) where
   -- a device that shows the same, and runs, below a cache that did not change
   shown_agrees : s' ≡ s → (up s ≡ true → n.runs ≡ true) → n.count ≡ m.count → Alike m.count n.shown m.shown → Agrees s' n
   shown_agrees e b c al = subst (λ (x : Memory). Agrees x n) (sym e)
-      (record { below = b; size = g.size; ordered = g.ordered; faithful = faithful_same (table_of s).slots m n c al g.faithful })
+      (record { below = b; ordered = g.ordered; faithful = faithful_same (table_of s).slots.items m n c al g.faithful })
 
   pub same_agrees : s' ≡ s → Same m n → Agrees s' n
   same_agrees e x = shown_agrees e (λ t. x.runs ∙ g.below t) x.count x.shown
 
   -- page p was read or written
   keep_agrees : (p : ℕ) (bs : List ℕ) → up s ≡ true → n.runs ≡ true → n.count ≡ m.count → p < m.count → n.shown p ≡ bytes bs
-      → ((i : ℕ) → i < m.count → i ≢ p → n.shown i ≡ m.shown i) → (up s' ≡ (up s)) × Keeps (table_of s) p bs (table_of s') → Agrees s' n
+      → ((i : ℕ) → i < m.count → i ≢ p → n.shown i ≡ m.shown i) → (up s' ≡ up s) × Keeps (table_of s) p bs (table_of s') → Agrees s' n
   keep_agrees p bs t b c w here others (u, k) = record {
     below = λ _. b;
-    size = ap length k.2 ∙ length-set (table_of s).slots k.0 _ ∙ g.size;
-    ordered = (placed_joined (table_of s) (table_of s') p bs g.size g.ordered k.0 k.2 k.1).1;
-    faithful = faithful_keep (table_of s) (table_of s') m n p bs g.size c w here others g.faithful k;
+    ordered = (placed_joined (table_of s) (table_of s') p bs g.ordered k.0 k.2 k.1).1;
+    faithful = faithful_keep (table_of s) (table_of s') m n p bs g.ordered.few c w here others g.faithful k;
   }
 
   read_agrees : (p : ℕ) (buf buf' : List ℕ) (r : Answer) → up s ≡ true → Read m p buf r buf' n → Noted p buf' s r s' → Agrees s' n
@@ -200,7 +195,7 @@ module _ (s s' : Memory) (m : Meaning) (g : Agrees s m) where
   heard_kept false a = ap (λ (x : Memory). kept (table_of x)) a
 
   noted_kept : (p : ℕ) (bs buf : List ℕ) (r : Answer) → Noted p bs s r s' → kept (table_of s') ≡ keeps (writes p buf) r (kept (table_of s))
-  noted_kept p bs buf (Ok _) (u, k) = (placed_joined (table_of s) (table_of s') p bs g.size g.ordered k.0 k.2 k.1).0
+  noted_kept p bs buf (Ok _) (u, k) = (placed_joined (table_of s) (table_of s') p bs g.ordered k.0 k.2 k.1).0
   noted_kept p bs buf (Err e) a = heard_kept (lost (Err e)) a
 
   pub kept_after : (k : Call) (r : Answer) → After k s r s' → kept (table_of s') ≡ keeps k r (kept (table_of s))

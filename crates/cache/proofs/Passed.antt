@@ -1,6 +1,6 @@
 -- The calls of a cache: one that is passed on, one that is refused, and a read of a page that is kept.
-use Rattle.std.proofs.Common.{◌≡◌, ℕ, ◌<◌, Bool, true, false, cond, ◌||◌, List, [], length, Ok, Err, sym, refl, ◌∙◌, arith}
-use Rattle.std.proofs.lemmas.Bool.{both_ways, eq-eqb, cond-true}
+use Rattle.std.proofs.Common.{◌≡◌, ℕ, ◌<◌, Bool, true, false, cond, ◌||◌, List, [], length, Ok, Err, sym, refl, arith}
+use Rattle.std.proofs.lemmas.Bool.{both_ways, cond-true}
 use Rattle.device.specs.declared.DeviceFault.{DeviceFault}
 use Rattle.device.specs.declared.DeviceFault.TheVariants.{NoSuchPage, BufferSize, PowerLost, PageSpoiled, TooManyWaiting}
 use Rattle.device.specs.Meaning.{Meaning, Grouped, has}
@@ -10,9 +10,8 @@ use Rattle.device.specs.Calls.{Answer, Call, reads, writes, syncs, restarts, dis
 use Rattle.device.specs.Clauses.{Does, GroupDoes}
 use Rattle.device.specs.Gate.{Refuses}
 use Rattle.device.proofs.CallsLaws.{one}
-use Rattle.device.proofs.GateLaws.{gate_read, gate_write, gate_calls}
-use Rattle.device.proofs.Meanings.{same_self, lost_self, no_end_self, leaves_self}
-use Rattle.device.proofs.Whens.{when_true, when_false, either_way}
+use Rattle.device.proofs.Meanings.{same_self}
+use Rattle.device.proofs.Whens.{when_true, either_way}
 use Rattle.cache.specs.declared.cache.Cache.{Cache}
 use Rattle.cache.specs.declared.memory.Memory.{Memory}
 use Rattle.cache.specs.Slots.{At, Absent}
@@ -75,45 +74,20 @@ module _ {X : Type 0} (agrees : X → Type 0) (meaning : X → Meaning) (c : Cac
     )
 
   -- a cache that is down keeps nothing
-  down_kept : up c.memory ≡ false → kept (table_of c.memory) ≡ []
+  pub down_kept : up c.memory ≡ false → kept (table_of c.memory) ≡ []
   down_kept d = empty_kept (table_of c.memory) (down_empty c.memory d)
 
-  refused_kept : (count p len : ℕ) (e : DeviceFault) → Refuses count p len (up c.memory) (number e) → Agreeing agrees meaning c → kept (table_of c.memory) ≡ cond (lost (Err e)) [] (kept (table_of c.memory))
-  refused_kept count p len NoSuchPage a h = refl
-  refused_kept count p len BufferSize a h = refl
-  refused_kept count p len PowerLost a h = down_kept a.2
-  refused_kept count p len PageSpoiled a h = absurd a
-  refused_kept count p len TooManyWaiting a h = absurd a
+  -- nor does the memory change where the checks refuse a call
+  pub refused_kept : (count p len : ℕ) (e : DeviceFault) → Refuses count p len (up c.memory) (number e) → kept (table_of c.memory) ≡ cond (lost (Err e)) [] (kept (table_of c.memory))
+  refused_kept count p len NoSuchPage a = refl
+  refused_kept count p len BufferSize a = refl
+  refused_kept count p len PowerLost a = down_kept a.2
+  refused_kept count p len PageSpoiled a = absurd a
+  refused_kept count p len TooManyWaiting a = absurd a
 
   module _ (count p : ℕ) (buf : List ℕ) (is : count ≡ (meaning c.below).count) where
-    -- the checks refuse a read or a write, and nothing changes
-    module _ (e : DeviceFault) (gate : Refuses count p (length buf) (up c.memory) (number e)) where
-      abbrev uncalled : (step : Call → X → Answer → X → Type 0) → Over (Calls (λ v. (meaning v).runs) step) (writes p buf) (up c.memory) c.below (Err e) c.below
-      uncalled step = gate_calls (λ v. (meaning v).runs) step count p (length buf) (up c.memory) c.below e gate
-
-      pub refused_read : All (reads p buf buf) (Err e) c
-      refused_read = (λ h. record { agrees = h; means = gate_read count p buf (cached meaning c) is e gate }, λ h. uncalled _, refused_kept count p (length buf) e gate)
-
-      pub refused_write : All (writes p buf) (Err e) c
-      refused_write = (λ h. record { agrees = h; means = gate_write count p buf (cached meaning c) is e gate }, λ h. uncalled _, refused_kept count p (length buf) e gate)
-
-      module _ (grouped : X → Grouped) where
-        pub group_refused_read : GroupAll grouped (reads p buf buf) (Err e) c
-        group_refused_read = (
-          λ h. record { agrees = h; means = (gate_read count p buf (cached meaning c) is e gate, leaves_self (cached meaning c) (grouped c.below) e); sound = λ s. s },
-          λ h. uncalled _,
-          refused_kept count p (length buf) e gate,
-        )
-
-        pub group_refused_write : GroupAll grouped (writes p buf) (Err e) c
-        group_refused_write = (
-          λ h. record { agrees = h; means = (gate_write count p buf (cached meaning c) is e gate, leaves_self (cached meaning c) (grouped c.below) e); sound = λ s. s },
-          λ h. uncalled _,
-          refused_kept count p (length buf) e gate,
-        )
-
     -- a kept page is read with no call below
-    module _ (within : p < count) (size : length buf ≡ 252) (t : up c.memory ≡ true) (i : ℕ) (bs : List ℕ) (at : At (table_of c.memory).slots i p bs) where
+    module _ (within : p < count) (size : length buf ≡ 252) (t : up c.memory ≡ true) (i : ℕ) (bs : List ℕ) (at : At (table_of c.memory).slots.items i p bs) where
       kept_means : Agreeing agrees meaning c → Read (cached meaning c) p buf (Ok tt) bs (cached meaning c)
       kept_means h = record { passes = record { within = omega arith; size = size }; running = t; value = h.1.faithful.shows i p bs at; same = same_self (cached meaning c) }
 
@@ -130,29 +104,5 @@ module _ {X : Type 0} (agrees : X → Type 0) (meaning : X → Meaning) (c : Cac
   pub same_still : (p : ℕ) → Resting agrees meaning p c c
   same_still p h k = refl
 
-  pub absent_still : (p : ℕ) (c' : Cache X) → Absent (table_of c.memory).slots p → Resting agrees meaning p c c'
-  absent_still p c' a h k = absurd (both_ways (has p (kept (table_of c.memory))) (absent_kept (table_of c.memory) p h.1.size a) k)
-
-  -- a cache that is down refuses a sync and a discard
-  module _ (e : DeviceFault) (d : up c.memory ≡ false) (is : number e ≡ 11) where
-    pub down_sync : All syncs (Err e) c
-    down_sync = (
-      λ h. record { agrees = h; means = (is, lost_self (cached meaning c) d) },
-      λ h. when_false (up c.memory) _ _ d refl,
-      λ h. down_kept d ∙ sym (cond-true (lost (Err e)) [] _ (eq-eqb (number e) 11 is)),
-    )
-
-    module _ (grouped : X → Grouped) where
-      pub group_down_sync : GroupAll grouped syncs (Err e) c
-      group_down_sync = (
-        λ h. record { agrees = h; means = ((is, lost_self (cached meaning c) d), when_false (up c.memory) _ _ d (no_end_self (meaning c.below).count (grouped c.below))); sound = λ s. s },
-        λ h. when_false (up c.memory) _ _ d refl,
-        down_sync.2,
-      )
-
-      pub down_discard : GroupAll grouped discards (Err e) c
-      down_discard = (
-        λ h. record { agrees = h; means = (is, lost_self (cached meaning c) d, no_end_self (meaning c.below).count (grouped c.below)); sound = λ s. s },
-        λ h. when_false (up c.memory) _ _ d refl,
-        λ h. down_kept d,
-      )
+  pub absent_still : (p : ℕ) (c' : Cache X) → Absent (table_of c.memory).slots.items p → Resting agrees meaning p c c'
+  absent_still p c' a h k = absurd (both_ways (has p (kept (table_of c.memory))) (absent_kept (table_of c.memory) p a) k)

@@ -1,12 +1,11 @@
 -- What a cache means by the device below it, when it agrees with that device, and what an answer from there makes of its memory.
-use Rattle.std.specs.Prelude.{◌≡◌, ℕ, ◌<◌, Bool, true, false, cond, ◌⊎◌, List, ◌++◌, map, length, replicate, is_ok, is_some, Some, None, Err, MatchBool, MatchResult}
+use Rattle.std.specs.Prelude.{◌≡◌, ℕ, ◌<◌, ◌≤◌, Bool, true, false, cond, ◌⊎◌, List, length, is_ok, is_some, Err, MatchBool, MatchResult}
 use Rattle.std.specs.Option.{unwrap_or}
 use Rattle.device.specs.Meaning.{bytes, Meaning, Sound}
 use Rattle.device.specs.Calls.{Answer, Call, reads, writes, syncs, restarts, discards, lost}
 use Rattle.cache.specs.declared.table.Table.{Table}
 use Rattle.cache.specs.declared.memory.Memory.{Memory}
 use Rattle.cache.specs.Slots.{Slots, At, Empty, Keeps, no_page}
-use Rattle.cache.specs.Order.{paged}
 
 -- a cache runs while it has a table
 abbrev pub up : Memory → Bool
@@ -26,12 +25,10 @@ pub record Faithful (slots : Slots) (m : Meaning) : Type 0 where
   pub within : (i p : ℕ) (bs : List ℕ) → At slots i p bs → p < m.count
   pub once : (i j p : ℕ) (bs bs' : List ℕ) → At slots i p bs → At slots j p bs' → i ≡ j
 
--- the slots fill up in their order, and until they are full the circle waits at slot 0
+-- until all eight slots are in use the circle waits at slot 0
 pub record Ordered (t : Table) : Type 0 where
-  pub filled : List ℕ
-  pub free : ℕ
-  pub row : map paged t.slots ≡ map Some filled ++ replicate free None
-  pub start : (free ≡ 0) ⊎ (t.next ≡ 0)
+  pub few : length t.slots.items ≤ 8
+  pub start : (length t.slots.items ≡ 8) ⊎ (t.next ≡ 0)
 
 -- down, and nothing is kept
 pub record Fresh (s : Memory) : Type 0 where
@@ -41,9 +38,8 @@ pub record Fresh (s : Memory) : Type 0 where
 -- a cache agrees with the device below: while it runs so does that device
 pub record Agrees (s : Memory) (m : Meaning) : Type 0 where
   pub below : up s ≡ true → m.runs ≡ true
-  pub size : length (table_of s).slots ≡ 8
   pub ordered : Ordered (table_of s)
-  pub faithful : Faithful (table_of s).slots m
+  pub faithful : Faithful (table_of s).slots.items m
 
 pub under_sound : (up : Bool) (m : Meaning) → (up ≡ true → m.runs ≡ true) → Sound m → Sound (under up m)
 under_sound up m b s = record {
@@ -61,7 +57,7 @@ Heard s r s' = MatchBool (lost r) (Fresh s') (s' ≡ s)
 
 -- after a read or a write of page p, which now has these bytes: it is kept where the call was accepted
 abbrev pub Noted : ℕ → List ℕ → Memory → Answer → Memory → Type 0
-Noted p bs s r s' = MatchResult r (λ _. (up s' ≡ (up s)) × Keeps (table_of s) p bs (table_of s')) (λ e. Heard s (Err e) s')
+Noted p bs s r s' = MatchResult r (λ _. (up s' ≡ up s) × Keeps (table_of s) p bs (table_of s')) (λ e. Heard s (Err e) s')
 
 -- after a restart: nothing is kept, and the cache runs where it was accepted
 pub record Revived (r : Answer) (s' : Memory) : Type 0 where

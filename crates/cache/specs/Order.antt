@@ -1,20 +1,13 @@
 -- The pages that a cache keeps, oldest first.
-use Rattle.std.specs.Prelude.{ℕ, ◌-◌, ◌%◌, cond, List, [], ◌∷◌, ◌++◌, map, length, take, drop, Some, None, Ok, Err, Option}
+use Rattle.std.specs.Prelude.{ℕ, ◌-◌, ◌%◌, cond, List, [], ◌∷◌, ◌++◌, map, length, take, drop, Ok, Err}
 use Rattle.device.specs.Meaning.{has}
 use Rattle.device.specs.Calls.{Answer, Call, reads, writes, syncs, restarts, discards, lost}
 use Rattle.cache.specs.declared.table.Kept.{Kept}
 use Rattle.cache.specs.declared.table.Table.{Table}
 
--- the page that a slot keeps
-abbrev pub paged : Option Kept → Option ℕ
-paged None = None
-paged (Some k) = Some k.page
-
--- the pages of a row of slots
-abbrev pub pages : List (Option ℕ) → List ℕ
-pages [] = []
-pages (None ∷ os) = pages os
-pages (Some p ∷ os) = p ∷ pages os
+-- the pages that are in the slots
+abbrev pub pages : List Kept → List ℕ
+pages = map (λ k. k.page)
 
 -- a row read round from its place n
 abbrev pub round : {A : Type 0} → ℕ → List A → List A
@@ -22,7 +15,7 @@ round n xs = drop n xs ++ take n xs
 
 -- the pages that are kept, oldest first: round the circle from the slot that is given up next
 unfoldable pub kept : Table → List ℕ
-kept t = pages (round (t.next % 8) (map paged t.slots))
+kept t = round (t.next % 8) (pages t.slots.items)
 
 -- the last eight
 abbrev pub newest : List ℕ → List ℕ

@@ -104,6 +104,7 @@ impl<D: Device> Device for Cache<D> {
     }
 }
 
+// The calls go below as a group's. Bodies shared by a closure with those of the plain device would need contracts longer than themselves.
 impl<D: GroupDevice> GroupDevice for Cache<D> {
     ghost grouped = { λ c. D.GroupDevice.grouped c.below };
 

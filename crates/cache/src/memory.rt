@@ -40,7 +40,7 @@ impl Memory {
 
     /// The bytes of a page that is kept.
     pub(crate) fn get(&self, page: usize) -> Option<&[u8; PAGE_SIZE]>
-        ensures { MatchOption result (Absent (table_of self.now).slots page) (λ b. (i : ℕ) × At (table_of self.now).slots i page b.now) }
+        ensures { MatchOption result (Absent (table_of self.now).slots.items page) (λ b. (i : ℕ) × At (table_of self.now).slots.items i page b.now) }
     {
         self.table.as_ref()?.get(page)
     }

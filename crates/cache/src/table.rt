@@ -1,24 +1,25 @@
 // Eight pages kept in memory. The slots fill up in their order, and are then given up in a circle.
-ghost use Rattle.std.specs.Prelude.{◌≡◌, ℕ, ◌+◌, ◌%◌, List, length, MatchOption};
+ghost use Rattle.std.specs.Prelude.{◌≡◌, ℕ, ◌+◌, ◌%◌, length, MatchOption};
 ghost use Rattle.std.specs.List.{position};
-ghost use Rattle.cache.specs.Slots.{keeps_page, At, Absent, Full, Vacant, Placed, Empty, Keeps};
+ghost use Rattle.cache.specs.Slots.{keeps_page, At, Absent, Empty, Keeps};
 
+use arrayvec::ArrayVec;
 use device::PAGE_SIZE;
 
 /// How many pages are kept.
 const SLOTS: usize = 8;
 
 /// A page that is kept.
-#[derive(Clone, Copy)]
+#[derive(Clone, Copy, Default)]
 pub(crate) struct Kept {
     page: usize,
     bytes: [u8; PAGE_SIZE],
 }
 
-/// The kept pages, and the slot that is given up next.
+/// The slots in use, and the one that is given up next.
 #[derive(Drop)]
 pub(crate) struct Table {
-    slots: [Option<Kept>; SLOTS],
+    slots: ArrayVec<Kept, SLOTS>,
     next: usize,
 }
 
@@ -27,25 +28,16 @@ impl Table {
         ensures { Empty result }
     {
         Table {
-            slots: [None; SLOTS],
+            slots: ArrayVec::new(),
             next: 0,
         }
     }
 
     // The slot that keeps the page.
     fn find(&self, page: usize) -> Option<usize>
-        ensures { result ≡ position (keeps_page page) self.now.slots }
+        ensures { result ≡ position (keeps_page page) self.now.slots.items }
     {
-        self.slots
-            .iter()
-            .position(|slot| matches!(slot, Some(kept) if kept.page == page))
-    }
-
-    // The first slot that keeps nothing.
-    fn vacant(&self) -> Option<usize>
-        ensures { MatchOption result (Full 8 self.now.slots) (Vacant self.now.slots) }
-    {
-        self.slots.iter().position(Option::is_none)
+        self.slots.iter().position(|kept| kept.page == page)
     }
 
     // The slot that is given up for a ninth page: the next in the circle, which moves on by one.
@@ -59,29 +51,22 @@ impl Table {
         i
     }
 
-    // The slot for a page that is to be kept: its own, the first empty one, or the one that is given up.
-    fn place(&mut self, page: usize) -> usize
-        ensures placed { Placed self.old page result self.new.next }
-        ensures slots { self.new.slots ≡ self.old.slots }
-    {
-        if let Some(i) = self.find(page) {
-            return i;
-        }
-        if let Some(i) = self.vacant() {
-            return i;
-        }
-        self.give_up()
-    }
-
-    /// Keeps the page with these bytes.
+    /// Keeps the page with these bytes: in its own slot, in a further one, or in the one that is given up.
     pub(crate) fn keep(&mut self, page: usize, buf: &[u8])
         requires { length buf.now ≡ 252 }
         ensures { Keeps self.old page buf.now self.new }
     {
-        let i = self.place(page);
         let mut bytes = [0; PAGE_SIZE];
         bytes.copy_from_slice(buf);
-        self.slots[i] = Some(Kept { page, bytes });
+        let kept = Kept { page, bytes };
+        if let Some(i) = self.find(page) {
+            self.slots[i] = kept;
+        } else if !self.slots.is_full() {
+            self.slots.push(kept);
+        } else {
+            let i = self.give_up();
+            self.slots[i] = kept;
+        }
     }
 
     /// Forgets all pages.
@@ -93,11 +78,10 @@ impl Table {
 
     /// The bytes of the page, if it is kept.
     pub(crate) fn get(&self, page: usize) -> Option<&[u8; PAGE_SIZE]>
-        ensures { MatchOption result (Absent self.now.slots page) (λ b. (i : ℕ) × At self.now.slots i page b.now) }
+        ensures { MatchOption result (Absent self.now.slots.items page) (λ b. (i : ℕ) × At self.now.slots.items i page b.now) }
     {
         let i = self.find(page)?;
-        let kept = self.slots[i].as_ref()?;
-        Some(&kept.bytes)
+        Some(&self.slots[i].bytes)
     }
 }
 

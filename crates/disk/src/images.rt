@@ -92,6 +92,7 @@ impl<'a> Images<'a> {
         ensures pages { CutTo self.old.settled.now self.old.written.now self.old.marks.now (bytes_of letters.now) kept self.new.settled.now self.new.marks.now }
         ensures written { self.new.written.now ≡ self.old.written.now }
     {
+        // By index: what an iterator of the images writes is not known to the proof once it ends.
         let mut turn = 0;
         for i in 0..self.count() {
             if self.marks[i] != 0 {

@@ -29,6 +29,7 @@ impl<'a> Armed for Disk<'a> {
     }
 }
 
+// An implementation for each layer: what a layer means by the device below it, and when it agrees with it, is its own.
 impl<D: Armed> Armed for Cache<D> {
     ghost bottom = { λ c. D.Armed.bottom c.below };
 

@@ -1,14 +1,9 @@
-use Rattle.std.proofs.lemmas.Result.{err_from_is_err_and}
 use Rattle.device.specs.Calls.{discards}
-use Rattle.cache.proofs.Passed.{group_passed, down_discard}
+use Rattle.cache.proofs.Passed.{group_passed, down_kept}
 use Rattle.cache.proofs.cache.CacheGroupDevice.discard.Goals as goal
 
-pub returns-in_err-running : goal.returns-in_err-running
-returns-in_err-running g c =
-    let q = err_from_is_err_and c.from_residual.result c.from_residual.ensures.1 in
-    let down = c.in_err-running.ensures in
-    let p = down_discard g.D.Device.agrees g.D.Device.meaning c.args.self.now c.in_err-running.field-0.0 down.0 down.1 g.D.GroupDevice.grouped in
-    rw (q.1, q.2) (record { does = p.0; calls = p.1; kept = p.2 })
+pub returns-in_err-running-clause-kept : goal.returns-in_err-running-clause-kept
+returns-in_err-running-clause-kept g c = λ _. down_kept g.D.Device.agrees g.D.Device.meaning c.args.self.now c.in_err-running.ensures.0
 
 pub returns : goal.returns
 returns g c =
