@@ -13,7 +13,7 @@ use Rattle.journal.specs.Crash.{Phase, Within, fresh, Bodies, Naming, Laying, Cl
 use Rattle.journal.specs.Writing.{Ready, OnlySpots, Wrote, WroteLost, HeadReady, HeadLost, HeadSet}
 use Rattle.journal.specs.Steps.{bodies, Settled, CutTo, LayReady, Finished, CommitReady, Committed}
 use Rattle.journal.specs.Sound.{pages_length}
-use Rattle.journal.proofs.Crash.{within_write, unnamed, bodies_ends, naming_ends, laying_ends, clearing_ends, bodies_synced, header_synced, homes_synced, clear_synced}
+use Rattle.journal.proofs.Crash.{within_write, unnamed, naming_ends, laying_ends, clearing_ends, bodies_synced, header_synced, homes_synced, clear_synced}
 use Rattle.journal.proofs.Helds.{has_later}
 
 pub whole_bodies : (es : List Entry) (ts : List ℕ) (j : ℕ) → whole ts j (bodies es) ≡ true
@@ -133,14 +133,6 @@ module _ (T : State → List ℕ) (es : List Entry) (base : ℕ → State) (m : 
         home = λ i z. absurd (omega arith);
       })
       (g p s (omega arith) x)
-
-  -- power was lost in step 1
-  pub bodies_lost : (n : Meaning) → WroteLost Body es m n → CutTo T Either m n
-  bodies_lost n d = record {
-    left = d.left;
-    ends = λ e x. inl (fewer m n e _ d.left.count
-        (bodies_ends T (pages es) (bodies es) base n (bodies_within n d.left.count d.gains) e x));
-  }
 
   module _ (n : Meaning) (w : Wrote Body es (length es) m n) (sn : Sound n) (o : Meaning) (d : SyncDone n o) where
     naming : Within o (Naming T (pages es) (bodies es) base)

@@ -102,9 +102,6 @@ module _ (ts : List ℕ) (m : Meaning) (few : length ts ≤ 64) (a : Awake m) wh
     pub load_broken : (n.shown (1 + j) ≡ spoiled) × Same n o → (whole ts 1 m.shown ≡ false) × Same m o
     load_broken b = (whole_broken ts 1 j m.shown lt (sym shown_at ∙ b.0), same_trans m n o l.same b.1)
 
-    pub load_lost : Lost n o → Lost m o
-    load_lost b = same_lost m n o l.same b
-
 -- whether what was loaded is a group that stood: n is what was read after the header, with its targets ts
 module _ (T : State → List ℕ) (m n : Meaning) (ts : List ℕ) (few : length ts ≤ 64) (some : 0 < length ts) (a : Awake m) (e : ts ≡ T (m.shown 0)) (s : Same m n) where
   whole_then : whole ts 1 m.shown ≡ whole ts 1 n.shown

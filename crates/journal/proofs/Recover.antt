@@ -2,10 +2,8 @@
 use Rattle.std.proofs.Common.{◌≡◌, ℕ, suc, ◌+◌, ◌<◌, ◌≤◌, true, not, ◌&&◌, ltb, leb, ◌≢◌, List, [], ◌∷◌, length, get_or, Ok, Err, sym, refl, ap, ◌∙◌, subst, inl, inr, ⊎_elim, arith}
 use Rattle.std.proofs.lemmas.List.{take_all}
 use Rattle.std.proofs.lemmas.Bool.{cases_Bool, cases_lt, cond-true, cond-false, and_parts, ltb-true, not-true}
-use Rattle.device.specs.declared.DeviceFault.{DeviceFault}
 use Rattle.device.specs.Meaning.{State, bytes, spoiled, Meaning, Sound, has, Distinct}
-use Rattle.device.specs.Promises.{Same, Lost, Restart, RestartDone}
-use Rattle.device.specs.Numbers.{number}
+use Rattle.device.specs.Promises.{Same, RestartDone}
 use Rattle.device.specs.Calls.{Answer}
 use Rattle.journal.specs.declared.entries.Entry.{Entry}
 use Rattle.journal.specs.Waiting.{blank, pages, AllFit}
@@ -20,7 +18,6 @@ use Rattle.journal.specs.Writing.{HeadSet}
 use Rattle.journal.specs.Steps.{bodies, LayReady, Finished}
 use Rattle.journal.specs.Recovery.{LoadedTo, FoundGroup, ClearReady, Cleared, Recovered}
 use Rattle.journal.proofs.Crash.{laid_none, laid_broken, whole_same}
-use Rattle.journal.proofs.Ended.{ends_from}
 use Rattle.journal.proofs.Finish.{at_body, whole_bodies}
 use Rattle.journal.proofs.Fitting.{fit_page, fit_size, apart_pages}
 use Rattle.journal.proofs.Targets.{reads, reads_none}
@@ -62,19 +59,6 @@ restart_same m n o r s = let c = r.ran.count in record {
   only = λ i x h y. let l : i < n.count = omega arith in r.only i x h (s.no_more i x l y) ∙ sym (s.shown i l);
   waits = s.waits ∙ r.waits;
 }
-
-pub recover_err : (T : State → List ℕ) (m n : Meaning) (e : DeviceFault) → Restart m (Err e) n → Recovered T m (Err e) n
-recover_err T m n e d = (d.0, record { left = d.1.left; ends = λ e x. ends_from T m n d.1.left.count d.1.fates e x })
-
--- power was lost while the group was read
-pub lost_after : (T : State → List ℕ) (m n o : Meaning) (e : DeviceFault) → RestartDone m n → (number e ≡ 11) × Lost n o → Recovered T m (Err e) o
-lost_after T m n o e r l = let c = r.ran.count in let k : o.count ≡ m.count = l.1.left.count ∙ c in (
-  l.0,
-  record {
-    left = record { count = k; down = l.1.left.down };
-    ends = λ e x. ends_from T m o k (λ i s h y. subst (m.fates i) (sym (r.only i s h (l.1.fates i s (omega arith) y))) (r.shown i h)) e x;
-  },
-)
 
 -- with no page above there is nothing more to do
 pub none_above : (m n : Meaning) → RestartDone m n → above n.count ≡ 0 → Recovered (reader m) m (Ok tt) n

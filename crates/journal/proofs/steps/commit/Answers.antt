@@ -4,22 +4,14 @@ use Rattle.journal.specs.Waiting.{waiting}
 use Rattle.journal.specs.Sending.{heading, Makes, step1, step2, step3, step4}
 use Rattle.journal.specs.Writing.{HeadLost, HeadSet}
 use Rattle.journal.proofs.Sent.{stopped, and_then, made_still}
-use Rattle.journal.proofs.Finish.{bodies_ready, bodies_lost, naming_ready, naming_lost, lay_ready, committed as all_committed}
+use Rattle.journal.proofs.Finish.{bodies_ready, naming_ready, naming_lost, lay_ready, committed as all_committed}
 use Rattle.journal.proofs.steps.commit.Goals as goal
 
-pub returns-in_err-settle_entries : goal.returns-in_err-settle_entries
-returns-in_err-settle_entries g c =
+pub returns-in_err-settle_entries-clause-makes : goal.returns-in_err-settle_entries-clause-makes
+returns-in_err-settle_entries-clause-makes g c =
     let p = err_from_is_err_and c.from_residual.result c.from_residual.ensures.1 in
-    let s = c.in_err-settle_entries.ensures in
-    let meaning = g.D.Device.meaning in
     let es = waiting c.args.entries.now in
-    let a = c.args.below.now in
-    let d = c.settle_entries.new.below in
-    record {
-      agrees = s.agrees;
-      makes = λ h t. rw (p.1, p.2) (stopped meaning (step1 es) (step2 es ++ (step3 es ++ step4)) c.in_err-settle_entries.field-0.0 a d (s.makes h t));
-      committed = λ h T base cr. rw (p.1, p.2) (let x = s.settled h (bodies_ready T es base (meaning a) cr) in (x.0, bodies_lost T es base (meaning a) cr (meaning d) x.1));
-    }
+    λ h t. rw (p.1, p.2) (stopped g.D.Device.meaning (step1 es) (step2 es ++ (step3 es ++ step4)) c.in_err-settle_entries.field-0.0 c.args.below.now c.settle_entries.new.below (c.in_err-settle_entries.ensures.makes h t))
 
 pub returns-in_err-set_header : goal.returns-in_err-set_header
 returns-in_err-set_header g c =
