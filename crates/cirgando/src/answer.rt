@@ -1,14 +1,56 @@
 // The answers of a transcript.
+use crate::command::Wrong;
+use device::DeviceFault;
+use disk::ArmFault;
+use std::alloc::AllocError;
 use std::fmt;
 
-/// The answer to a command.
+/// The answer to a command that was accepted.
 #[derive(Drop)]
 pub(crate) enum Answer {
     Done,
     Count(usize),
     Bytes(Vec<u8>),
     Hash(u32),
-    Refused(u8),
+}
+
+/// Why a command was not accepted.
+#[derive(Clone, Copy, Debug, PartialEq, Eq)]
+pub(crate) enum Denial {
+    /// The disk refused to be armed.
+    Arm(ArmFault),
+    /// A device refused a call.
+    Device(DeviceFault),
+    /// A key is not valid under its rule.
+    KeyNotValid,
+    /// The line is no command that can be played.
+    Wrong(Wrong),
+    /// There was no memory for it, which ends the program.
+    NoMemory(AllocError),
+}
+
+impl From<ArmFault> for Denial {
+    fn from(fault: ArmFault) -> Denial {
+        Denial::Arm(fault)
+    }
+}
+
+impl From<DeviceFault> for Denial {
+    fn from(fault: DeviceFault) -> Denial {
+        Denial::Device(fault)
+    }
+}
+
+impl From<Wrong> for Denial {
+    fn from(wrong: Wrong) -> Denial {
+        Denial::Wrong(wrong)
+    }
+}
+
+impl From<AllocError> for Denial {
+    fn from(error: AllocError) -> Denial {
+        Denial::NoMemory(error)
+    }
 }
 
 impl fmt::Display for Answer {
@@ -24,7 +66,18 @@ impl fmt::Display for Answer {
                 let first = hash >> 24;
                 write!(f, "ok 0x{hash:08x} {first:08b}")
             }
-            Answer::Refused(number) => write!(f, "refused {number}"),
+        }
+    }
+}
+
+impl fmt::Display for Denial {
+    fn fmt<W: fmt::Write>(&self, f: &mut fmt::Formatter<W>) -> fmt::Result {
+        match self {
+            Denial::Arm(fault) => write!(f, "refused {}", fault.number()),
+            Denial::Device(fault) => write!(f, "refused {}", fault.number()),
+            Denial::KeyNotValid => write!(f, "refused 3"),
+            Denial::Wrong(wrong) => write!(f, "error: {wrong}"),
+            Denial::NoMemory(error) => write!(f, "error: {error}"),
         }
     }
 }

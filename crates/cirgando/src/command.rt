@@ -8,12 +8,17 @@ use std::str::SplitWhitespace;
 pub(crate) enum Command<'a> {
     /// A new pile.
     Pile(Pile),
-    /// Arms the disk at the bottom of the pile.
-    Arm { n: u32, letters: &'a str, t: u64 },
-    /// A page call on the top of the pile.
-    Page(PageCall<'a>),
+    /// A call on the pile.
+    Call(Call<'a>),
     /// The hash of a key.
-    Key { rule: Rule, bytes: &'a str },
+    Key(Key<'a>),
+}
+
+/// A key, as it is written, and its rule.
+#[derive(Clone, Copy)]
+pub(crate) struct Key<'a> {
+    pub(crate) rule: Rule,
+    pub(crate) bytes: &'a str,
 }
 
 /// A pile: a disk of so many pages, and the layers on it.
@@ -41,8 +46,11 @@ pub(crate) enum Rule {
     Text,
 }
 
+/// A call on a pile.
 #[derive(Clone, Copy)]
-pub(crate) enum PageCall<'a> {
+pub(crate) enum Call<'a> {
+    /// Arms the disk at the bottom.
+    Arm { n: u32, letters: &'a str, t: u64 },
     Read { page: u64, len: u64 },
     Write { page: u64, bytes: &'a str },
     Sync,
@@ -51,7 +59,7 @@ pub(crate) enum PageCall<'a> {
 }
 
 /// What is wrong with a line.
-#[derive(Clone, Copy)]
+#[derive(Clone, Copy, Debug, PartialEq, Eq)]
 pub(crate) enum Wrong {
     NotText,
     NoCommand,
@@ -63,7 +71,7 @@ pub(crate) enum Wrong {
 }
 
 /// The forms of the commands.
-#[derive(Clone, Copy)]
+#[derive(Clone, Copy, Debug, PartialEq, Eq)]
 pub(crate) enum Form {
     Pile,
     Arm,
@@ -103,18 +111,19 @@ pub(crate) fn parse(line: &[u8]) -> Result<Option<Command<'_>>, Wrong> {
     if let [b'#', ..] = line {
         return Ok(None);
     }
-    let Ok(text) = std::str::from_utf8(line) else {
-        return Err(Wrong::NotText);
-    };
+    let text = std::str::from_utf8(line).map_err(|_| Wrong::NotText)?;
     let mut words = text.split_whitespace();
-    match words.next() {
-        None => Ok(None),
-        Some("pile") => Ok(Some(pile_command(&mut words)?)),
-        Some("arm") => Ok(Some(arm_command(&mut words)?)),
-        Some("page") => Ok(Some(Command::Page(page_command(&mut words)?))),
-        Some("key") => Ok(Some(key_command(&mut words)?)),
-        Some(_) => Err(Wrong::NoCommand),
-    }
+    let Some(first) = words.next() else {
+        return Ok(None);
+    };
+    let command = match first {
+        "pile" => Command::Pile(pile_command(&mut words)?),
+        "arm" => Command::Call(arm_command(&mut words)?),
+        "page" => Command::Call(page_command(&mut words)?),
+        "key" => Command::Key(key_command(&mut words)?),
+        _ => return Err(Wrong::NoCommand),
+    };
+    Ok(Some(command))
 }
 
 // A word that has to be there.
@@ -135,14 +144,14 @@ fn end<'a>(words: &mut SplitWhitespace<'a>, form: Form) -> Result<(), Wrong> {
     }
 }
 
-fn pile_command<'a>(words: &mut SplitWhitespace<'a>) -> Result<Command<'a>, Wrong> {
+fn pile_command<'a>(words: &mut SplitWhitespace<'a>) -> Result<Pile, Wrong> {
     let form = Form::Pile;
     let "disk" = word(words, form)? else {
         return Err(Wrong::Usage(form));
     };
     let pages = number_word(words, form)?;
     let layers = layer_words(words)?;
-    Ok(Command::Pile(Pile { pages, layers }))
+    Ok(Pile { pages, layers })
 }
 
 // The layers that the rest of a line names.
@@ -158,18 +167,16 @@ fn layer_words(words: &mut SplitWhitespace<'_>) -> Result<Layers, Wrong> {
     }
 }
 
-fn arm_command<'a>(words: &mut SplitWhitespace<'a>) -> Result<Command<'a>, Wrong> {
+fn arm_command<'a>(words: &mut SplitWhitespace<'a>) -> Result<Call<'a>, Wrong> {
     let form = Form::Arm;
-    let Ok(n) = u32::try_from(number_word(words, form)?) else {
-        return Err(Wrong::NotANumber);
-    };
+    let n = u32::try_from(number_word(words, form)?).map_err(|_| Wrong::NotANumber)?;
     let letters = word(words, form)?;
     let t = number_word(words, form)?;
     end(words, form)?;
-    Ok(Command::Arm { n, letters, t })
+    Ok(Call::Arm { n, letters, t })
 }
 
-fn key_command<'a>(words: &mut SplitWhitespace<'a>) -> Result<Command<'a>, Wrong> {
+fn key_command<'a>(words: &mut SplitWhitespace<'a>) -> Result<Key<'a>, Wrong> {
     let form = Form::Key;
     let rule = match word(words, form)? {
         "text" => Rule::Text,
@@ -178,23 +185,23 @@ fn key_command<'a>(words: &mut SplitWhitespace<'a>) -> Result<Command<'a>, Wrong
     };
     let bytes = word(words, form)?;
     end(words, form)?;
-    Ok(Command::Key { rule, bytes })
+    Ok(Key { rule, bytes })
 }
 
-fn page_command<'a>(words: &mut SplitWhitespace<'a>) -> Result<PageCall<'a>, Wrong> {
+fn page_command<'a>(words: &mut SplitWhitespace<'a>) -> Result<Call<'a>, Wrong> {
     let form = Form::Page;
     let call = match word(words, form)? {
-        "read" => PageCall::Read {
+        "read" => Call::Read {
             page: number_word(words, form)?,
             len: number_word(words, form)?,
         },
-        "write" => PageCall::Write {
+        "write" => Call::Write {
             page: number_word(words, form)?,
             bytes: word(words, form)?,
         },
-        "sync" => PageCall::Sync,
-        "restart" => PageCall::Restart,
-        "discard" => PageCall::Discard,
+        "sync" => Call::Sync,
+        "restart" => Call::Restart,
+        "discard" => Call::Discard,
         _ => return Err(Wrong::Usage(form)),
     };
     end(words, form)?;

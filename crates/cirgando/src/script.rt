@@ -17,14 +17,12 @@ impl<R: BufRead + Drop> Script<R> {
         }
     }
 
-    /// Reads the next line; false at the end of the input.
-    pub(crate) fn advance(&mut self) -> anyhow::Result<bool> {
+    /// The next line; none at the end of the input.
+    pub(crate) fn next_line(&mut self) -> anyhow::Result<Option<&[u8]>> {
         self.line.clear();
-        Ok(self.input.read_until(b'\n', &mut self.line)? > 0)
-    }
-
-    /// The line that was read last.
-    pub(crate) fn line(&self) -> &[u8] {
-        self.line.as_slice()
+        if self.input.read_until(b'\n', &mut self.line)? == 0 {
+            return Ok(None);
+        }
+        Ok(Some(self.line.as_slice()))
     }
 }

@@ -1,14 +1,15 @@
 // Plays the commands of a transcript.
-use crate::answer::Answer;
-use crate::command::{Command, Layers, PageCall, Pile, Rule, Wrong, parse};
+use crate::answer::{Answer, Denial};
+use crate::command::{Call, Command, Key, Layers, Pile, Rule, Wrong, parse};
 use crate::script::Script;
 use crate::words::bytes;
 use cache::Cache;
-use device::{Device, DeviceFault, GroupDevice};
+use device::{DeviceFault, GroupDevice};
 use disk::Disk;
 use journal::Journal;
 use keys::{IntegerKeys, KeyRule, TextKeys};
 use pile::Armed;
+use std::alloc::Global;
 use std::io::BufRead;
 
 /// The most pages of a disk, and the bytes of its raw pages.
@@ -19,84 +20,53 @@ const RAW_SIZE: usize = 256;
 /// The longest buffer that a read is lent. No device takes one of this length, or longer.
 const MAX_BUFFER: u64 = 4096;
 
-/// The refusal of a key that its rule does not take.
-const KEY_NOT_VALID: u8 = 3;
-
 /// The most lines that are played: no input has more.
 const MAX_LINES: u64 = u64::MAX;
-
-/// Which calls a pile has.
-trait PileKind<D> {
-    /// A discard; none where the pile is no group device.
-    fn discard(device: &mut D) -> Option<Result<(), DeviceFault>>;
-}
-
-/// The kind of a pile that is no group device.
-struct Single;
-
-impl<D> PileKind<D> for Single {
-    fn discard(_device: &mut D) -> Option<Result<(), DeviceFault>> {
-        None
-    }
-}
-
-/// The kind of a pile that is a group device.
-struct Group;
-
-impl<D: GroupDevice> PileKind<D> for Group {
-    fn discard(device: &mut D) -> Option<Result<(), DeviceFault>> {
-        Some(device.discard())
-    }
-}
-
-/// What comes after the commands that were played on a pile.
-#[derive(Drop)]
-enum Next {
-    End,
-    Pile(Pile),
-}
 
 /// Plays a whole transcript.
 pub(crate) fn play<R: BufRead + Drop>(
     rt: &HostRuntime,
     script: &mut Script<R>,
 ) -> anyhow::Result<()> {
-    let mut next = play_no_pile(rt, script)?;
+    let mut next = play_commands(rt, script, |_| Err(Denial::Wrong(Wrong::NoPile)))?;
     for _ in 0..MAX_LINES {
-        match next {
-            Next::End => break,
-            Next::Pile(pile) => next = play_new_pile(rt, script, pile)?,
-        }
+        let Some(pile) = next else {
+            break;
+        };
+        next = play_new_pile(rt, script, pile)?;
     }
     Ok(())
 }
 
-// Plays the commands before the first pile.
-fn play_no_pile<R: BufRead + Drop>(
+// Plays the commands up to the next pile, which it answers. What a call on the pile is answered is told by `answer`.
+fn play_commands<R: BufRead + Drop, F: FnMut(Call<'_>) -> Result<Answer, Denial>>(
     rt: &HostRuntime,
     script: &mut Script<R>,
-) -> anyhow::Result<Next> {
+    mut answer: F,
+) -> anyhow::Result<Option<Pile>>
+    requires { F.IsAlwaysCallable answer }
+{
     for _ in 0..MAX_LINES {
-        if !script.advance()? {
+        let Some(line) = script.next_line()? else {
             break;
-        }
-        match parse(script.line()) {
+        };
+        match parse(line) {
             Ok(None) => {}
-            Ok(Some(Command::Pile(pile))) => return Ok(Next::Pile(pile)),
-            Ok(Some(Command::Key { rule, bytes })) => key(rt, rule, bytes)?,
-            Ok(Some(_)) => complain(rt, Wrong::NoPile)?,
-            Err(wrong) => complain(rt, wrong)?,
+            Ok(Some(Command::Pile(pile))) => return Ok(Some(pile)),
+            Ok(Some(Command::Key(key))) => say(rt, hash(rt.alloc(), key))?,
+            Ok(Some(Command::Call(call))) => say(rt, answer(call))?,
+            Err(wrong) => say(rt, Err(Denial::Wrong(wrong)))?,
         }
     }
-    Ok(Next::End)
+    Ok(None)
 }
 
-// Makes a pile over zeroed images, and plays the commands on it.
+// Makes a pile over zeroed images, plays the commands on it, and answers the next pile.
 fn play_new_pile<R: BufRead + Drop>(
     rt: &HostRuntime,
     script: &mut Script<R>,
     pile: Pile,
-) -> anyhow::Result<Next> {
+) -> anyhow::Result<Option<Pile>> {
     let count = pile.pages.min(MAX_PAGES) as usize;
     let heap = rt.alloc();
     let mut settled = vec![in heap; 0u8; count * RAW_SIZE]?;
@@ -120,7 +90,7 @@ fn play_layers<R: BufRead + Drop>(
     written: &mut [u8],
     marks: &mut [u8],
     layers: Layers,
-) -> anyhow::Result<Next> {
+) -> anyhow::Result<Option<Pile>> {
     let disk = Disk::new(settled, written, marks);
     match layers {
         Layers::None => play_single(rt, script, disk),
@@ -134,14 +104,14 @@ fn play_layers<R: BufRead + Drop>(
     }
 }
 
-// Plays the commands on a pile that is no group device.
+// Plays the commands on a pile that is no group device: it has no discard.
 fn play_single<R: BufRead + Drop, D: Armed + Drop>(
     rt: &HostRuntime,
     script: &mut Script<R>,
     device: D,
-) -> anyhow::Result<Next> {
+) -> anyhow::Result<Option<Pile>> {
     let mut device = device;
-    play_pile::<R, D, Single>(rt, script, &mut device)
+    play_pile(rt, script, &mut device, |_| None)
 }
 
 // Plays the commands on a pile that is a group device.
@@ -149,110 +119,83 @@ fn play_group<R: BufRead + Drop, G: Armed + GroupDevice + Drop>(
     rt: &HostRuntime,
     script: &mut Script<R>,
     device: G,
-) -> anyhow::Result<Next> {
+) -> anyhow::Result<Option<Pile>> {
     let mut device = device;
-    play_pile::<R, G, Group>(rt, script, &mut device)
+    play_pile(rt, script, &mut device, |group| Some(group.discard()))
 }
 
-// Plays the commands on a pile.
-fn play_pile<R: BufRead + Drop, D: Armed, K: PileKind<D>>(
+// Plays the commands on a pile, whose discard is told, if it has one.
+fn play_pile<R: BufRead + Drop, D: Armed, F: Fn(&mut D) -> Option<Result<(), DeviceFault>>>(
     rt: &HostRuntime,
     script: &mut Script<R>,
     device: &mut D,
-) -> anyhow::Result<Next> {
-    rt.println(Answer::Count(device.page_count()))?;
-    for _ in 0..MAX_LINES {
-        if !script.advance()? {
-            break;
-        }
-        match parse(script.line()) {
-            Ok(None) => {}
-            Ok(Some(Command::Pile(pile))) => return Ok(Next::Pile(pile)),
-            Ok(Some(Command::Arm { n, letters, t })) => arm(rt, device, n, letters, t)?,
-            Ok(Some(Command::Page(call))) => page::<D, K>(rt, device, call)?,
-            Ok(Some(Command::Key { rule, bytes })) => key(rt, rule, bytes)?,
-            Err(wrong) => complain(rt, wrong)?,
-        }
-    }
-    Ok(Next::End)
+    discard: F,
+) -> anyhow::Result<Option<Pile>>
+    requires { (f : F) (x : _) → F.pre f x }
+{
+    say(rt, Ok(Answer::Count(device.page_count())))?;
+    let heap = rt.alloc();
+    play_commands(
+        rt,
+        script,
+        |call|
+            requires { (f : _) (x : _) → F.pre f x }
+        { make_call(heap, device, &discard, call) },
+    )
 }
 
-fn arm<D: Armed>(
-    rt: &HostRuntime,
+// Makes a call on a pile.
+fn make_call<D: Armed, F: Fn(&mut D) -> Option<Result<(), DeviceFault>>>(
+    heap: Global,
     device: &mut D,
-    n: u32,
-    letters: &str,
-    t: u64,
-) -> anyhow::Result<()> {
-    let answer = match device.arm_disk(n, letters.as_bytes(), t as usize) {
-        Ok(()) => Answer::Done,
-        Err(fault) => Answer::Refused(fault.number()),
-    };
-    rt.println(answer)?;
-    Ok(())
-}
-
-// Makes a page call, and prints its answer.
-fn page<D: Device, K: PileKind<D>>(
-    rt: &HostRuntime,
-    device: &mut D,
-    call: PageCall<'_>,
-) -> anyhow::Result<()> {
+    discard: &F,
+    call: Call<'_>,
+) -> Result<Answer, Denial>
+    requires { (f : F) (x : _) → F.pre f x }
+{
     match call {
-        PageCall::Read { page, len } => read(rt, device, page, len),
-        PageCall::Write { page, bytes: word } => match bytes(rt.alloc(), word)? {
-            Some(buf) => tell(rt, device.write(page as usize, buf.as_slice())),
-            None => complain(rt, Wrong::NotBytes),
-        },
-        PageCall::Sync => tell(rt, device.sync()),
-        PageCall::Restart => tell(rt, device.restart()),
-        PageCall::Discard => match K::discard(device) {
-            Some(result) => tell(rt, result),
-            None => complain(rt, Wrong::NoGroup),
-        },
+        Call::Arm { n, letters, t } => device.arm_disk(n, letters.as_bytes(), t as usize)?,
+        Call::Read { page, len } => return read(heap, device, page, len),
+        Call::Write { page, bytes: word } => {
+            let buf = bytes(heap, word)?.ok_or(Wrong::NotBytes)?;
+            device.write(page as usize, buf.as_slice())?
+        }
+        Call::Sync => device.sync()?,
+        Call::Restart => device.restart()?,
+        Call::Discard => discard(device).ok_or(Wrong::NoGroup)??,
+    }
+    Ok(Answer::Done)
+}
+
+// Reads a page into a buffer of `len` bytes.
+fn read<D: Armed>(heap: Global, device: &mut D, page: u64, len: u64) -> Result<Answer, Denial> {
+    let mut buf = vec![in heap; 0u8; len.min(MAX_BUFFER) as usize]?;
+    device.read(page as usize, buf.as_mut_slice())?;
+    Ok(Answer::Bytes(buf))
+}
+
+// The hash of a key.
+fn hash(heap: Global, key: Key<'_>) -> Result<Answer, Denial> {
+    let key_bytes = bytes(heap, key.bytes)?.ok_or(Wrong::NotBytes)?;
+    match key.rule {
+        Rule::Integers => hash_by::<IntegerKeys>(key_bytes.as_slice()),
+        Rule::Text => hash_by::<TextKeys>(key_bytes.as_slice()),
     }
 }
 
-fn read<D: Device>(rt: &HostRuntime, device: &mut D, page: u64, len: u64) -> anyhow::Result<()> {
-    let mut buf = vec![in rt.alloc(); 0u8; len.min(MAX_BUFFER) as usize]?;
-    let answer = match device.read(page as usize, buf.as_mut_slice()) {
-        Ok(()) => Answer::Bytes(buf),
-        Err(fault) => Answer::Refused(fault.number()),
-    };
-    rt.println(answer)?;
-    Ok(())
-}
-
-fn tell(rt: &HostRuntime, res: Result<(), DeviceFault>) -> anyhow::Result<()> {
-    let answer = match res {
-        Ok(()) => Answer::Done,
-        Err(fault) => Answer::Refused(fault.number()),
-    };
-    rt.println(answer)?;
-    Ok(())
-}
-
-// Prints the hash of a key.
-fn key(rt: &HostRuntime, rule: Rule, word: &str) -> anyhow::Result<()> {
-    let Some(key) = bytes(rt.alloc(), word)? else {
-        return complain(rt, Wrong::NotBytes);
-    };
-    rt.println(match rule {
-        Rule::Integers => hash::<IntegerKeys>(key.as_slice()),
-        Rule::Text => hash::<TextKeys>(key.as_slice()),
-    })?;
-    Ok(())
-}
-
-fn hash<K: KeyRule>(key: &[u8]) -> Answer {
-    if K::is_valid(key) {
-        Answer::Hash(K::hash(key))
-    } else {
-        Answer::Refused(KEY_NOT_VALID)
+fn hash_by<K: KeyRule>(key: &[u8]) -> Result<Answer, Denial> {
+    if !K::is_valid(key) {
+        return Err(Denial::KeyNotValid);
     }
+    Ok(Answer::Hash(K::hash(key)))
 }
 
-fn complain(rt: &HostRuntime, wrong: Wrong) -> anyhow::Result<()> {
-    println!(rt; "error: {wrong}")?;
+// Prints what a command is answered. Want of memory ends the program.
+fn say(rt: &HostRuntime, reply: Result<Answer, Denial>) -> anyhow::Result<()> {
+    match reply {
+        Ok(answer) => rt.println(answer)?,
+        Err(Denial::NoMemory(error)) => return Err(anyhow::Error::from(error)),
+        Err(denial) => rt.println(denial)?,
+    }
     Ok(())
 }

@@ -11,8 +11,7 @@ use std::alloc::{AllocError, Global};
 pub(crate) fn number(word: &str) -> Option<u64>
     ensures { SomeIff result (IsNumeral 10 word.now × (digits_value 10 word.now < 2 ^ 64)) (digits_value 10 word.now) }
 {
-    let digits = word.as_bytes();
-    if !digits.is_empty() && digits[0] == b'+' {
+    if let [b'+', ..] = word.as_bytes() {
         return None;
     }
     word.parse::<u64>().ok()
@@ -22,25 +21,14 @@ pub(crate) fn number(word: &str) -> Option<u64>
 fn digit(c: u8) -> Option<u8>
     ensures { SomeIff result (digit_value c < 16) (digit_value c) }
 {
-    match c {
-        b'0'..=b'9' => Some(c - b'0'),
-        b'a'..=b'f' => Some(c - b'a' + 10),
-        b'A'..=b'F' => Some(c - b'A' + 10),
-        _ => None,
-    }
+    char::from(c).to_digit(16).map(|value| value as u8)
 }
 
 // The byte of two hex digits.
 fn byte(high: u8, low: u8) -> Option<u8>
     ensures { SomeIff result ((digit_value high < 16) × (digit_value low < 16)) (16 * digit_value high + digit_value low) }
 {
-    let Some(h) = digit(high) else {
-        return None;
-    };
-    let Some(l) = digit(low) else {
-        return None;
-    };
-    Some(16 * h + l)
+    Some(16 * digit(high)? + digit(low)?)
 }
 
 // The bytes that hex digits write, two digits a byte.
@@ -49,9 +37,8 @@ fn unhex(heap: Global, digits: &[u8]) -> Result<Option<Vec<u8>>, AllocError>
 {
     let mut out = Vec::new(heap);
     let mut rest = digits;
-    while rest.len() >= 2 {
-        let (pair, tail) = rest.split_at(2);
-        let Some(b) = byte(pair[0], pair[1]) else {
+    while let [high, low, tail @ ..] = rest {
+        let Some(b) = byte(*high, *low) else {
             return Ok(None);
         };
         out.push(b)?;
@@ -66,10 +53,8 @@ pub(crate) fn bytes(heap: Global, word: &str) -> Result<Option<Vec<u8>>, AllocEr
     ensures hex { marked word.now ≡ true → IfOk result (λ o. MatchOption o (Hex (drop 2 word.now) → ⊥) (λ v. Hex (drop 2 word.now) × (v.items ≡ written (drop 2 word.now)))) }
     ensures plain { marked word.now ≡ false → IfOk result (λ o. MatchOption o ⊥ (λ v. v.items ≡ word.now)) }
 {
-    let own = word.as_bytes();
-    if own.len() >= 2 && own[0] == b'0' && own[1] == b'x' {
-        let (_, digits) = own.split_at(2);
-        return unhex(heap, digits);
+    match word.as_bytes() {
+        [b'0', b'x', digits @ ..] => unhex(heap, digits),
+        own => Ok(Some(own.to_vec(heap)?)),
     }
-    Ok(Some(own.to_vec(heap)?))
 }

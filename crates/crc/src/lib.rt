@@ -1,7 +1,7 @@
 //! CRC-32 of IEEE 802.3, by eight bytes at a time ("slicing by 8").
 #![tactic(auto)]
 
-ghost use Rattle.std.specs.Prelude.{◌≡◌, ℕ, ◌-◌, ◌%◌, List, ◌++◌, length, bit_xor};
+ghost use Rattle.std.specs.Prelude.{◌≡◌, ℕ, ◌-◌, ◌%◌, List, ◌++◌, bit_xor};
 ghost use Rattle.crc.specs.Crc32.{After, byte_in, crc_of, register, zeros_in};
 
 mod tables;
@@ -29,16 +29,11 @@ pub fn byte_in(state: u32, byte: u8) -> u32
 fn bytes_in(state: u32, bytes: &[u8]) -> u32
     ensures { result ≡ register state bytes.now }
 {
-    let mut now = state;
-    for b in bytes {
-        now = byte_in(now, *b);
-    }
-    now
+    bytes.iter().fold(state, |now, b| byte_in(now, *b))
 }
 
 // Eight bytes enter the register.
-fn eight_in(state: u32, b: &[u8]) -> u32
-    requires { length b.now ≡ 8 }
+fn eight_in(state: u32, b: &[u8; 8]) -> u32
     ensures { result ≡ register state b.now }
 {
     look(7, state ^ b[0] as u32)
@@ -57,10 +52,9 @@ fn enter(state: u32, bytes: &[u8]) -> u32
 {
     let mut now = state;
     let mut rest = bytes;
-    while rest.len() >= 8 {
-        let (front, back) = rest.split_at(8);
-        now = eight_in(now, front);
-        rest = back;
+    while let Some((eight, tail)) = rest.split_first_chunk::<8>() {
+        now = eight_in(now, eight);
+        rest = tail;
     }
     bytes_in(now, rest)
 }

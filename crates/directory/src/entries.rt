@@ -1,6 +1,17 @@
-//! The steps of a change to the entries of a directory.
+//! The directory of a store, and the steps of a change to its entries.
 ghost use Rattle.std.specs.Prelude.{◌≡◌, ℕ, ◌+◌, ◌*◌, ◌^◌, ◌<◌, ◌≤◌, MatchBool, MatchOption};
 ghost use Rattle.directory.specs.Names.{assigned, at, Beyond, Differ, FirstFree, Free, Named, NoneFree, Unused, widened};
+
+/// The most bits of a directory.
+const DEEPEST: u8 = 8;
+
+/// A directory of `depth` bits: of its 256 entries the first 2 ^ `depth` are used, each of which names a page.
+#[derive(Clone, Copy, Debug, PartialEq, Eq)]
+pub struct Directory {
+    pub entries: [u16; 256],
+    pub depth: u8,
+    ghost deep: { depth ≤ 8 },
+}
 
 /// The lowest page that may be a bucket.
 pub(crate) fn first_page() -> u16
@@ -9,61 +20,87 @@ pub(crate) fn first_page() -> u16
     5
 }
 
-/// Lets every used entry that begins with `prefix`, of `bits` bits, name `page`.
-pub(crate) fn assign(entries: &mut [u16; 256], depth: u8, bits: u8, prefix: u32, page: u16)
+impl Directory {
+    /// A directory of so many bits; none where there are more than 8.
+    pub fn new(entries: [u16; 256], depth: u8) -> Option<Directory>
+        ensures { MatchOption result (8 < depth) (λ d. (d.entries ≡ entries) × (d.depth ≡ depth)) }
+    {
+        if depth > DEEPEST {
+            return None;
+        }
+        Some(Directory { entries, depth })
+    }
+
+    /// How many entries are used.
+    fn used(&self) -> usize
+        ensures width { result ≡ 2 ^ self.now.depth }
+        ensures most { result ≤ 256 }
+    {
+        1usize << self.depth
+    }
+
+    /// Lets every used entry that begins with `prefix`, of `bits` bits, name `page`.
+    pub(crate) fn assign(&mut self, bits: u8, prefix: u32, page: u16)
+        requires { bits ≤ self.old.depth }
+        ensures depth { self.new.depth ≡ self.old.depth }
+        ensures used { (i : ℕ) → i < 2 ^ self.old.depth → at self.new.entries i ≡ assigned self.old.depth bits prefix page (at self.old.entries) i }
+        ensures rest { Beyond self.old.depth (at self.old.entries) (at self.new.entries) }
+    {
+        assign_used(&mut self.entries, self.depth, bits, prefix, page);
+    }
+
+    /// Widens the directory to `depth` bits: each entry names the page that its first bits named.
+    pub(crate) fn widen(&mut self, depth: u8)
+        requires deep { depth ≤ 8 }
+        requires wider { self.old.depth ≤ depth }
+        ensures depth { self.new.depth ≡ depth }
+        ensures used { (i : ℕ) → i < 2 ^ depth → at self.new.entries i ≡ widened self.old.depth depth (at self.old.entries) i }
+        ensures rest { Beyond depth (at self.old.entries) (at self.new.entries) }
+    {
+        let shift = depth - self.depth;
+        self.depth = depth;
+        // An entry takes what another one has, from the last to the first: no iterator lends both.
+        for i in (0..self.used()).rev() {
+            self.entries[i] = self.entries[i >> shift];
+        }
+    }
+
+    /// Whether some used entry names the page.
+    fn is_named(&self, page: u16) -> bool
+        ensures { MatchBool result (Named self.now.depth (at self.now.entries) page) (Free self.now.depth (at self.now.entries) page) }
+    {
+        self.entries[..self.used()].contains(&page)
+    }
+
+    /// The lowest page from 5 to 4 + `limit` that no used entry names, if there is one.
+    pub(crate) fn free_page(&self, limit: u16) -> Option<u16>
+        requires { limit ≤ 256 }
+        ensures { MatchOption result (NoneFree self.now.depth limit (at self.now.entries)) (FirstFree self.now.depth limit (at self.now.entries)) }
+    {
+        let first = first_page();
+        for page in first..first + limit {
+            if !self.is_named(page) {
+                return Some(page);
+            }
+        }
+        None
+    }
+}
+
+/// Lets each of the used entries of a directory of `depth` bits that begins with `prefix`, of `bits` bits, name `page`.
+fn assign_used(entries: &mut [u16; 256], depth: u8, bits: u8, prefix: u32, page: u16)
     requires deep { depth ≤ 8 }
     requires short { bits ≤ depth }
     ensures used { (i : ℕ) → i < 2 ^ depth → at entries.new i ≡ assigned depth bits prefix page (at entries.old) i }
     ensures rest { Beyond depth (at entries.old) (at entries.new) }
 {
     let shift = depth - bits;
-    for i in 0..1usize << depth {
+    let used = &mut entries[..1usize << depth];
+    for (i, entry) in used.iter_mut().enumerate() {
         if i >> shift == prefix as usize {
-            entries[i] = page;
+            *entry = page;
         }
     }
-}
-
-/// Widens a directory: each entry names the page that its first bits named.
-pub(crate) fn widen(entries: &mut [u16; 256], from: u8, to: u8)
-    requires deep { to ≤ 8 }
-    requires wider { from ≤ to }
-    ensures used { (i : ℕ) → i < 2 ^ to → at entries.new i ≡ widened from to (at entries.old) i }
-    ensures rest { Beyond to (at entries.old) (at entries.new) }
-{
-    let shift = to - from;
-    for i in (0..1usize << to).rev() {
-        entries[i] = entries[i >> shift];
-    }
-}
-
-/// Whether some used entry names the page.
-fn is_named(entries: &[u16; 256], depth: u8, page: u16) -> bool
-    requires { depth ≤ 8 }
-    ensures { MatchBool result (Named depth (at entries.now) page) (Free depth (at entries.now) page) }
-{
-    let used = 1usize << depth;
-    for i in 0..used {
-        if entries[i] == page {
-            return true;
-        }
-    }
-    false
-}
-
-/// The lowest page from 5 to 4 + `limit` that no used entry names, if there is one.
-pub(crate) fn free_page(entries: &[u16; 256], depth: u8, limit: u16) -> Option<u16>
-    requires deep { depth ≤ 8 }
-    requires most { limit ≤ 256 }
-    ensures { MatchOption result (NoneFree depth limit (at entries.now)) (FirstFree depth limit (at entries.now)) }
-{
-    let first = first_page();
-    for page in first..first + limit {
-        if !is_named(entries, depth, page) {
-            return Some(page);
-        }
-    }
-    None
 }
 
 /// Whether both entries of each pair that differs in the last bit name one page.
@@ -71,6 +108,7 @@ pub(crate) fn pairs_agree(entries: &[u16; 256], pairs: usize) -> bool
     requires { pairs ≤ 128 }
     ensures { MatchBool result ((i : ℕ) → i < pairs → at entries.now (2 * i) ≡ at entries.now (2 * i + 1)) ((i : ℕ) × (i < pairs) × Differ (at entries.now) i) }
 {
+    // By index: of `as_chunks::<2>` with `all` the check does not find what the answer says.
     for i in 0..pairs {
         if entries[2 * i] != entries[2 * i + 1] {
             return false;
@@ -85,18 +123,20 @@ pub(crate) fn halve(entries: &mut [u16; 256], pairs: usize)
     ensures used { (i : ℕ) → i < pairs → at entries.new i ≡ at entries.old (2 * i) }
     ensures rest { (i : ℕ) → pairs ≤ i → at entries.new i ≡ at entries.old i }
 {
+    // An entry takes what another one has: no iterator lends both.
     for pair in 0..pairs {
         entries[pair] = entries[2 * pair];
     }
 }
 
-/// Makes the unused entries 0.
-pub(crate) fn clear(entries: &mut [u16; 256], depth: u8)
-    requires { depth ≤ 8 }
-    ensures used { (i : ℕ) → i < 2 ^ depth → at entries.new i ≡ at entries.old i }
-    ensures rest { Unused depth (at entries.new) }
-{
-    for i in 1usize << depth..256 {
-        entries[i] = 0;
+impl Directory {
+    /// Makes the unused entries 0.
+    pub(crate) fn clear_unused(&mut self)
+        ensures depth { self.new.depth ≡ self.old.depth }
+        ensures used { (i : ℕ) → i < 2 ^ self.old.depth → at self.new.entries i ≡ at self.old.entries i }
+        ensures rest { Unused self.old.depth (at self.new.entries) }
+    {
+        let used = self.used();
+        self.entries[used..].fill(0);
     }
 }

@@ -1,104 +1,83 @@
 //! The entries of a store's directory, and what a change does to them.
 #![tactic(auto)]
 
-ghost use Rattle.std.specs.Prelude.{◌≡◌, ℕ, ◌≤◌, None, MatchBool, MatchOption};
+ghost use Rattle.std.specs.Prelude.{◌≡◌, ℕ, ◌≤◌, IsErr, MatchBool, MatchResult};
 ghost use Rattle.directory.specs.Names.{at};
 ghost use Rattle.directory.specs.Laws.{PagesTaken};
 ghost use Rattle.directory.specs.Changes.{MergeFits, Merged, Merging, NarrowedTo, Narrowest, Split, SplitFits, SplitTo, Splitting, TooFew, WidenedTo};
 
 mod entries;
 
-/// The directory after the bucket of `hash`, of `bits` bits, was split down to `target` bits: the new depth; None, where there are not enough free pages.
-pub fn split(
-    entries: &mut [u16; 256],
-    depth: u8,
-    limit: u16,
-    hash: u32,
-    bits: u8,
-    target: u8,
-) -> Option<u8>
-    ensures split { (d : ℕ → ℕ) → Splitting depth limit hash bits target (at entries.old) d → MatchOption result (TooFew depth limit bits target (at entries.old)) (λ v. Split depth v limit hash bits target (at entries.old) d (at entries.new)) }
-    ensures unfit { (SplitFits depth limit bits target → ⊥) → (result ≡ None) × (entries.new ≡ entries.old) }
-{
-    if !split_fits(depth, limit, bits, target) {
-        return None;
-    }
-    let wide = depth.max(target);
-    entries::widen(entries, depth, wide);
-    if split_path(entries, wide, limit, hash, bits, target) {
-        Some(wide)
-    } else {
-        None
-    }
-}
+pub use entries::Directory;
 
-/// Whether the numbers of a split are in range.
-fn split_fits(depth: u8, limit: u16, bits: u8, target: u8) -> bool
-    ensures { MatchBool result (SplitFits depth limit bits target) (SplitFits depth limit bits target → ⊥) }
-{
-    depth <= 8 && limit <= 256 && bits <= depth && bits <= target && target <= 8
-}
+/// There are not enough free pages.
+#[derive(Clone, Copy, Debug, PartialEq, Eq)]
+pub struct TooFewPages;
 
-/// Gives each sibling along the path of `hash`, from `bits` to `target` bits, a free page; false, where there are not enough.
-fn split_path(
-    entries: &mut [u16; 256],
-    depth: u8,
-    limit: u16,
-    hash: u32,
-    bits: u8,
-    target: u8,
-) -> bool
-    requires deep { depth ≤ 8 }
-    requires most { limit ≤ 256 }
-    requires within { target ≤ depth }
-    ensures { (w : ℕ) (E d : ℕ → ℕ) → Splitting w limit hash bits target E d → WidenedTo w depth E (at entries.old) → MatchBool result ((ds : ℕ → ℕ) × SplitTo w depth limit hash bits target E d (at entries.new) ds) (TooFew w limit bits target E) }
-{
-    for j in bits..target {
-        let Some(page) = entries::free_page(entries, depth, limit) else {
-            return false;
-        };
-        let sibling = tree::sibling(tree::prefix(hash, j as u32 + 1));
-        entries::assign(entries, depth, j + 1, sibling, page);
-    }
-    true
-}
-
-/// The directory after all buckets below the first `bits` bits of `hash` were merged into `page`: the new depth.
-pub fn merge(entries: &mut [u16; 256], depth: u8, hash: u32, bits: u8, page: u16) -> u8
-    ensures merged { (d : ℕ → ℕ) → Merging depth hash bits page (at entries.old) d → Merged depth result hash bits page (at entries.old) d (at entries.new) }
-    ensures unfit { (MergeFits depth bits → ⊥) → (result ≡ depth) × (entries.new ≡ entries.old) }
-{
-    if !merge_fits(depth, bits) {
-        return depth;
-    }
-    let prefix = tree::prefix(hash, bits as u32);
-    entries::assign(entries, depth, bits, prefix, page);
-    let narrow = narrow(entries, depth);
-    entries::clear(entries, narrow);
-    narrow
-}
-
-/// Whether the numbers of a merge are in range.
-fn merge_fits(depth: u8, bits: u8) -> bool
-    ensures { MatchBool result (MergeFits depth bits) (MergeFits depth bits → ⊥) }
-{
-    depth <= 8 && bits <= depth
-}
-
-/// Narrows a directory as long as no page has all its bits: the new depth.
-fn narrow(entries: &mut [u16; 256], depth: u8) -> u8
-    requires { depth ≤ 8 }
-    ensures narrowed { NarrowedTo depth result (at entries.old) (at entries.new) }
-    ensures least { Narrowest result (at entries.new) }
-{
-    for bits in (0..depth).rev() {
-        let pairs = 1usize << bits;
-        if !entries::pairs_agree(entries, pairs) {
-            return bits + 1;
+impl Directory {
+    /// After the bucket of `hash`, of `bits` bits, was split down to `target` bits.
+    pub fn split(&mut self, limit: u16, hash: u32, bits: u8, target: u8) -> Result<(), TooFewPages>
+        ensures split { (d : ℕ → ℕ) → Splitting self.old.depth limit hash bits target (at self.old.entries) d → MatchResult result (λ _. Split self.old.depth self.new.depth limit hash bits target (at self.old.entries) d (at self.new.entries)) (λ _. TooFew self.old.depth limit bits target (at self.old.entries)) }
+        ensures unfit { (SplitFits self.old.depth limit bits target → ⊥) → IsErr result × (self.new ≡ self.old) }
+    {
+        if !self.split_fits(limit, bits, target) {
+            return Err(TooFewPages);
         }
-        entries::halve(entries, pairs);
+        self.widen(self.depth.max(target));
+        self.split_path(limit, hash, bits, target)
     }
-    0
+
+    /// Whether the numbers of a split are in range.
+    fn split_fits(&self, limit: u16, bits: u8, target: u8) -> bool
+        ensures { MatchBool result (SplitFits self.now.depth limit bits target) (SplitFits self.now.depth limit bits target → ⊥) }
+    {
+        limit <= 256 && bits <= self.depth && bits <= target && target <= 8
+    }
+
+    /// Gives each sibling along the path of `hash`, from `bits` to `target` bits, a free page.
+    fn split_path(&mut self, limit: u16, hash: u32, bits: u8, target: u8) -> Result<(), TooFewPages>
+        requires most { limit ≤ 256 }
+        requires within { target ≤ self.old.depth }
+        ensures depth { self.new.depth ≡ self.old.depth }
+        ensures split { (w : ℕ) (E d : ℕ → ℕ) → Splitting w limit hash bits target E d → WidenedTo w self.old.depth E (at self.old.entries) → MatchResult result (λ _. (ds : ℕ → ℕ) × SplitTo w self.old.depth limit hash bits target E d (at self.new.entries) ds) (λ _. TooFew w limit bits target E) }
+    {
+        for j in bits..target {
+            let Some(page) = self.free_page(limit) else {
+                return Err(TooFewPages);
+            };
+            let sibling = tree::sibling(tree::prefix(hash, j as u32 + 1));
+            self.assign(j + 1, sibling, page);
+        }
+        Ok(())
+    }
+
+    /// After all buckets below the first `bits` bits of `hash` were merged into `page`.
+    pub fn merge(&mut self, hash: u32, bits: u8, page: u16)
+        ensures merged { (d : ℕ → ℕ) → Merging self.old.depth hash bits page (at self.old.entries) d → Merged self.old.depth self.new.depth hash bits page (at self.old.entries) d (at self.new.entries) }
+        ensures unfit { (MergeFits self.old.depth bits → ⊥) → self.new ≡ self.old }
+    {
+        if bits > self.depth {
+            return;
+        }
+        self.assign(bits, tree::prefix(hash, bits as u32), page);
+        self.narrow();
+        self.clear_unused();
+    }
+
+    /// Narrows the directory as long as no page has all its bits.
+    fn narrow(&mut self)
+        ensures narrowed { NarrowedTo self.old.depth self.new.depth (at self.old.entries) (at self.new.entries) }
+        ensures least { Narrowest self.new.depth (at self.new.entries) }
+    {
+        for bits in (0..self.depth).rev() {
+            let pairs = 1usize << bits;
+            if !entries::pairs_agree(&self.entries, pairs) {
+                return;
+            }
+            entries::halve(&mut self.entries, pairs);
+            self.depth = bits;
+        }
+    }
 }
 
 /// The law of the pages that a directory names. Answers the lowest page that may be a bucket.
@@ -112,25 +91,36 @@ pub fn pages_taken() -> u16
 #[cfg(test)]
 mod tests {
     use super::*;
+    use std::test::Fail;
 
-    #[test]
-    fn split_and_merge(rt: HostRuntime) {
+    fn one_bucket() -> Option<Directory> {
         let mut entries = [0; 256];
         entries[0] = 5;
-        assert_eq!(rt; split(&mut entries, 0, 3, 0x8000_0000, 0, 2), Some(2));
+        Directory::new(entries, 0)
+    }
+
+    #[test]
+    fn split_and_merge(rt: HostRuntime) -> Result<(), Fail> {
+        let mut directory = one_bucket().ok_or("too deep")?;
+        assert_eq!(rt; directory.split(3, 0x8000_0000, 0, 2), Ok(()));
+        assert_eq!(rt; directory.depth, 2);
+        let entries = directory.entries;
         assert_eq!(rt; entries[0], 6);
         assert_eq!(rt; entries[1], 6);
         assert_eq!(rt; entries[2], 5);
         assert_eq!(rt; entries[3], 7);
-        assert_eq!(rt; merge(&mut entries, 2, 0x8000_0000, 1, 5), 1);
+        directory.merge(0x8000_0000, 1, 5);
+        assert_eq!(rt; directory.depth, 1);
+        let entries = directory.entries;
         assert_eq!(rt; entries[1], 5);
         assert_eq!(rt; entries[2], 0);
+        Ok(())
     }
 
     #[test]
-    fn too_few_pages(rt: HostRuntime) {
-        let mut entries = [0; 256];
-        entries[0] = 5;
-        assert_eq!(rt; split(&mut entries, 0, 2, 0, 0, 2), None);
+    fn too_few_pages(rt: HostRuntime) -> Result<(), Fail> {
+        let mut directory = one_bucket().ok_or("too deep")?;
+        assert_eq!(rt; directory.split(2, 0, 0, 2), Err(TooFewPages));
+        Ok(())
     }
 }

@@ -1,9 +1,8 @@
 -- Two keys are the same where some form of them is equal: the laws, for any form.
-use Rattle.std.specs.Prelude.{◌≡◌, ℕ, Bool, true, false, List, MatchBool, ◌≢◌, refl}
-use Rattle.std.proofs.Common.{sym, ap, ◌∙◌, inl, inr}
+use Rattle.std.specs.Prelude.{◌≡◌, ℕ, true, List, refl}
+use Rattle.std.proofs.Common.{sym, ap, ◌∙◌}
 use Rattle.std.specs.Str.{bytes_eq}
 use Rattle.std.proofs.lemmas.Slice.Eq.{bytes_eq-Decides}
-use Rattle.std.proofs.lemmas.Bool.{cases_Bool}
 
 module _ (form : List ℕ → List ℕ) where
   equal : (j k : List ℕ) → bytes_eq (form j) (form k) ≡ true → form j ≡ form k
@@ -21,8 +20,3 @@ module _ (form : List ℕ → List ℕ) where
   -- what is made of the form alone agrees
   pub same_made : (made : List ℕ → ℕ) (j k : List ℕ) → bytes_eq (form j) (form k) ≡ true → made (form j) ≡ made (form k)
   same_made made j k e = ap made (equal j k e)
-
--- the answer of a comparison
-pub same_when : (xs ys : List ℕ) (r : Bool) → MatchBool r (xs ≡ ys) (xs ≢ ys) → r ≡ bytes_eq xs ys
-same_when xs ys true e = sym ((bytes_eq-Decides xs ys).1 e)
-same_when xs ys false ne = elim (cases_Bool (bytes_eq xs ys)) [ inl e ↦ absurd (ne ((bytes_eq-Decides xs ys).0 e)) | inr e ↦ sym e ]

@@ -1,11 +1,12 @@
 //! Key rules: which bytes are a key, which two keys are the same, and the hash by which a key is filed.
 #![tactic(auto)]
 
-ghost use Rattle.std.specs.Prelude.{◌≡◌, ◌≢◌, map, MatchBool};
+ghost use Rattle.std.specs.Prelude.{◌≡◌};
+ghost use Rattle.std.specs.List.{list_all};
 ghost use Rattle.crc.specs.Crc32.{byte_in};
 ghost use Rattle.keys.specs.Integers.{integers};
 ghost use Rattle.keys.specs.Rule.{Lawful, Rule};
-ghost use Rattle.keys.specs.Text.{all_graphic, graphic, lowered, texts};
+ghost use Rattle.keys.specs.Text.{graphic, lowered, texts};
 ghost use Rattle.keys.specs.Laws.{integers_lawful, texts_lawful};
 
 /// A rule on keys. It is a type: no value of it is needed, and what it says never changes. Every call takes any bytes.
@@ -45,7 +46,7 @@ impl KeyRule for IntegerKeys {
     }
 
     fn is_same(a: &[u8], b: &[u8]) -> bool {
-        same_bytes(a, b)
+        a == b
     }
 
     fn hash(key: &[u8]) -> u32 {
@@ -67,38 +68,20 @@ impl KeyRule for TextKeys {
     ghost lawful = { texts_lawful };
 
     fn is_valid(key: &[u8]) -> bool {
-        1 <= key.len() && key.len() <= 32 && is_all_graphic(key)
+        (1..=32).contains(&key.len()) && is_all_graphic(key)
     }
 
     fn is_same(a: &[u8], b: &[u8]) -> bool {
-        same_letters(a, b)
+        a.eq_ignore_ascii_case(b)
     }
 
     fn hash(key: &[u8]) -> u32 {
-        let mut state = crc::START;
-        for b in key {
-            state = letter_in(state, *b);
-        }
-        crc::finish(state)
+        crc::finish(key.iter().fold(crc::START, |state, b| letter_in(state, *b)))
     }
 
     fn kind() -> u8 {
         2
     }
-}
-
-/// Whether two rows of bytes are equal, byte by byte.
-fn same_bytes(a: &[u8], b: &[u8]) -> bool
-    ensures { MatchBool result (a.now ≡ b.now) (a.now ≢ b.now) }
-{
-    a == b
-}
-
-/// Whether two rows of bytes are equal once A to Z are made a to z.
-fn same_letters(a: &[u8], b: &[u8]) -> bool
-    ensures { MatchBool result (map lowered a.now ≡ map lowered b.now) (map lowered a.now ≢ map lowered b.now) }
-{
-    a.eq_ignore_ascii_case(b)
 }
 
 /// Whether a text key may hold the byte.
@@ -110,14 +93,9 @@ fn is_graphic(byte: u8) -> bool
 
 /// Whether a text key may hold each of the bytes.
 fn is_all_graphic(bytes: &[u8]) -> bool
-    ensures { result ≡ all_graphic bytes.now }
+    ensures { result ≡ list_all graphic bytes.now }
 {
-    for b in bytes {
-        if !is_graphic(*b) {
-            return false;
-        }
-    }
-    true
+    bytes.iter().all(|b| is_graphic(*b))
 }
 
 /// A byte of a text key enters the hash, a capital letter as a small one.

@@ -1,9 +1,24 @@
 //! The classes of records.
 ghost use Rattle.std.specs.Prelude.{◌≡◌, min};
-ghost use Rattle.tree.specs.Classes.{last_day, row_at, row_of};
+ghost use Rattle.tree.specs.Classes.{ClassOf, last_day, row, row_at, row_of};
 
-/// A class of records: its number, its letter, the days that a record is kept, and the most bytes of a value.
-#[derive(Clone, Copy)]
+/// The classes of records.
+#[derive(Clone, Copy, Debug, PartialEq, Eq)]
+pub enum Class {
+    /// Scans, kept two years.
+    Scan,
+    /// Marks, kept ten years.
+    Mark,
+    /// Examiners' drafts, kept thirty days.
+    Draft,
+}
+
+/// A letter or a number that no class has.
+#[derive(Clone, Copy, Debug, PartialEq, Eq)]
+pub struct NotListed;
+
+/// What is said of a class: its number, its letter, the days that a record is kept, and the most bytes of a value.
+#[derive(Clone, Copy, Debug, PartialEq, Eq)]
 pub struct ClassRow {
     pub class: u8,
     pub letter: u8,
@@ -32,27 +47,48 @@ const DRAFT: ClassRow = ClassRow {
     longest: 120,
 };
 
-/// The row of a class letter, if the letter is listed.
-pub fn class_row(letter: char) -> Option<ClassRow>
-    ensures { result ≡ row_of letter }
-{
-    match letter {
-        's' => Some(SCAN),
-        'm' => Some(MARK),
-        'd' => Some(DRAFT),
-        _ => None,
+/// The class of a letter.
+impl TryFrom<char> for Class {
+    type Error = NotListed;
+
+    ghost try_from_gives = { λ letter r. ClassOf (row_of letter) r };
+
+    fn try_from(letter: char) -> Result<Class, NotListed> {
+        match letter {
+            's' => Ok(Class::Scan),
+            'm' => Ok(Class::Mark),
+            'd' => Ok(Class::Draft),
+            _ => Err(NotListed),
+        }
     }
 }
 
-/// The row of a class number, if the number is listed.
-pub fn class_of(number: u8) -> Option<ClassRow>
-    ensures { result ≡ row_at number }
-{
-    match number {
-        1 => Some(SCAN),
-        2 => Some(MARK),
-        3 => Some(DRAFT),
-        _ => None,
+/// The class of a number.
+impl TryFrom<u8> for Class {
+    type Error = NotListed;
+
+    ghost try_from_gives = { λ number r. ClassOf (row_at number) r };
+
+    fn try_from(number: u8) -> Result<Class, NotListed> {
+        match number {
+            1 => Ok(Class::Scan),
+            2 => Ok(Class::Mark),
+            3 => Ok(Class::Draft),
+            _ => Err(NotListed),
+        }
+    }
+}
+
+impl Class {
+    /// What is said of the class.
+    pub fn row(self) -> ClassRow
+        ensures { result ≡ row self }
+    {
+        match self {
+            Class::Scan => SCAN,
+            Class::Mark => MARK,
+            Class::Draft => DRAFT,
+        }
     }
 }
 

@@ -8,7 +8,7 @@ ghost use Rattle.tree.specs.Prefix.{pre, sib};
 mod classes;
 mod laws;
 
-pub use classes::{ClassRow, class_of, class_row};
+pub use classes::{Class, ClassRow, NotListed};
 pub use laws::{
     bucket_bits, bucket_room, buckets_stand, changes_stand, directories_stand, loads_stand,
     steps_stand,
@@ -39,7 +39,6 @@ pub fn sibling(prefix: u32) -> u32
 #[cfg(test)]
 mod tests {
     use super::*;
-    use std::test::Fail;
 
     #[test]
     fn prefixes(rt: HostRuntime) {
@@ -51,13 +50,13 @@ mod tests {
     }
 
     #[test]
-    fn classes(rt: HostRuntime) -> Result<(), Fail> {
-        let scan = class_row('s').ok_or("not listed")?;
-        assert_eq!(rt; scan.last_day(99_999), 100_729);
-        assert_eq!(rt; scan.last_day(u32::MAX), u32::MAX);
-        assert_eq!(rt; class_of(2).ok_or("not listed")?.letter, b'm');
-        assert!(rt; class_row('S').is_none());
-        assert!(rt; class_of(0).is_none());
-        Ok(())
+    fn classes(rt: HostRuntime) {
+        assert_eq!(rt; Class::try_from('s'), Ok(Class::Scan));
+        assert_eq!(rt; Class::Scan.row().last_day(99_999), 100_729);
+        assert_eq!(rt; Class::Scan.row().last_day(u32::MAX), u32::MAX);
+        assert_eq!(rt; Class::try_from(2u8), Ok(Class::Mark));
+        assert_eq!(rt; Class::Mark.row().letter, b'm');
+        assert_eq!(rt; Class::try_from('S'), Err(NotListed));
+        assert_eq!(rt; Class::try_from(0u8), Err(NotListed));
     }
 }

@@ -1,6 +1,6 @@
 use Rattle.std.proofs.Common.{◌≡◌, sym, ◌∙◌, ⊎_elim, arith}
 use Rattle.std.proofs.lemmas.Bool.{cases_lt}
-use Rattle.directory.proofs.entries.free_page.Goals as goal
+use Rattle.directory.proofs.entries.Directory.free_page.Goals as goal
 
 pub loop-page-preserved : goal.loop-page-preserved
 loop-page-preserved c p low h =
