@@ -4,7 +4,7 @@ use Rattle.std.proofs.lemmas.Result.{err_from_is_err_and}
 use Rattle.journal.specs.declared.entries.Entry.{Entry}
 use Rattle.journal.specs.Waiting.{waiting}
 use Rattle.journal.specs.Recovery.{Looked, LoadedTo}
-use Rattle.journal.proofs.Sent.{made_none, and_then, made_still}
+use Rattle.journal.proofs.Sent.{made_none, and_then}
 use Rattle.journal.proofs.Looked.{loaded_none, body_looked, loaded_more, load_broken}
 use Rattle.journal.proofs.recovery.load.Goals as goal
 
@@ -27,7 +27,7 @@ returns-in_err-bytes-clause-makes g c =
     let meaning = g.D.Device.meaning in
     let a = c.args.below.now in
     let d = c.loop-j.below in
-    λ h t. rw (p.1, p.2) (and_then meaning [] [] (Err c.in_err-bytes.field-0.0) a d c.look.new.below (i.1 h t) (x.makes (i.0 h) (made_still meaning [] a d (i.1 h t) t)))
+    λ h t. rw (p.1, p.2) (and_then meaning [] [] (Err c.in_err-bytes.field-0.0) a d c.look.new.below t (i.1 h t) (x.makes (i.0 h)))
 
 pub returns-in_default : goal.returns-in_default
 returns-in_default g c =
@@ -43,7 +43,7 @@ returns-in_default g c =
     let lt : j < length ts = subst (λ (l : List ℕ). j < length l) c.deref-page-items.ensures.0 c.loop-j-test.true in
     record {
       agrees = λ h. x.agrees (i.0 h);
-      makes = λ h t. and_then meaning [] [] (Ok tt) a d e (i.1 h t) (x.makes (i.0 h) (made_still meaning [] a d (i.1 h t) t));
+      makes = λ h t. and_then meaning [] [] (Ok tt) a d e t (i.1 h t) (x.makes (i.0 h));
       loaded = λ h aw.
           let l = i.2 h aw in
           load_broken ts (meaning a) few aw (meaning d) j _ l lt (meaning e)
@@ -69,7 +69,7 @@ loop-j-preserved g c =
     let pushed : waiting c.push.new.self ≡ waiting c.loop-j.group ++ (record { page = get_or ts j 0; bytes = bs }) ∷ [] =
     c.push.ensures ∙ ap (λ (l : List ℕ). waiting c.loop-j.group ++ (record { page = get_or l j 0; bytes = bs }) ∷ []) items in (
       λ h. x.agrees (i.0 h),
-      λ h t. and_then meaning [] [] (Ok tt) a d e (i.1 h t) (x.makes (i.0 h) (made_still meaning [] a d (i.1 h t) t)),
+      λ h t. and_then meaning [] [] (Ok tt) a d e t (i.1 h t) (x.makes (i.0 h)),
       λ h aw.
           let l = i.2 h aw in
           subst (λ (es : List Entry). LoadedTo ts (j + 1) es (meaning a) (meaning e)) (sym pushed)

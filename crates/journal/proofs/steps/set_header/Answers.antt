@@ -24,5 +24,5 @@ returns-clause-makes g c =
     let d = c.write.new.self in
     let e = c.sync.new.self in
     let buf = c.args.page.now in
-    λ h t. and_then meaning (writes 0 buf ∷ []) (syncs ∷ []) c.sync.result a d e (made meaning (writes 0 buf) (Ok tt) a d t (does h).means)
-    (made meaning syncs c.sync.result d e (does h).means.ran.still (syncing (does h).agrees).means)
+    λ h t. and_then meaning (writes 0 buf ∷ []) (syncs ∷ []) c.sync.result a d e t (made meaning (writes 0 buf) (Ok tt) a d t (does h).means)
+    (λ u. made meaning syncs c.sync.result d e u (syncing (does h).agrees).means)

@@ -3,7 +3,7 @@ use Rattle.std.proofs.lemmas.Result.{err_from_is_err_and}
 use Rattle.device.specs.Calls.{syncs}
 use Rattle.journal.specs.Waiting.{waiting}
 use Rattle.journal.specs.Sending.{placed}
-use Rattle.journal.proofs.Sent.{made, stopped, and_then, made_still}
+use Rattle.journal.proofs.Sent.{made, stopped, and_then}
 use Rattle.journal.proofs.steps.settle_entries.Goals as goal
 
 pub returns-in_err-write_entries-clause-makes : goal.returns-in_err-write_entries-clause-makes
@@ -19,5 +19,5 @@ returns-clause-makes g c =
     let d = c.write_entries.new.below in
     let e = c.sync.new.self in
     let plan = placed c.args.area 0 (waiting c.args.entries.now) in
-    λ h t. and_then meaning plan (syncs ∷ []) c.sync.result a d e (w.makes h t)
-    (made meaning syncs c.sync.result d e (made_still meaning plan a d (w.makes h t) t) (c.sync.ensures.does (w.agrees h)).means)
+    λ h t. and_then meaning plan (syncs ∷ []) c.sync.result a d e t (w.makes h t)
+    (λ u. made meaning syncs c.sync.result d e u (c.sync.ensures.does (w.agrees h)).means)

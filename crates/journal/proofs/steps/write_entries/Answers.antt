@@ -5,7 +5,7 @@ use Rattle.device.specs.Calls.{Call, writes}
 use Rattle.journal.specs.Waiting.{blank}
 use Rattle.journal.specs.Sending.{Makes, placed}
 use Rattle.journal.specs.Writing.{spot}
-use Rattle.journal.proofs.Sent.{made_none, made, stopped, and_then, made_still, placed_more, placed_part}
+use Rattle.journal.proofs.Sent.{made_none, made, stopped, and_then, placed_more, placed_part}
 use Rattle.journal.proofs.Written.{wrote_none, wrote_more}
 use Rattle.journal.proofs.steps.write_entries.Goals as goal
 
@@ -30,8 +30,8 @@ returns-in_err-write-clause-makes g c =
     λ h t. rw (p.1, p.2) (subst (λ (l : List Call). Makes meaning l (Err f) a e) (placed_part area es (j + 1) ∙ ap (placed area 0) c.as_slice-e-items.ensures.items)
     (stopped meaning (placed area 0 (take (j + 1) es)) (placed area (j + 1) (drop (j + 1) es)) f a e
     (subst (λ (l : List Call). Makes meaning l (Err f) a e) (placed_more area es j c.loop-j-test.true)
-    (and_then meaning (placed area 0 (take j es)) _ (Err f) a d e (i.1 h t)
-    (made meaning (writes (spot area es j) (get_or es j blank).bytes) (Err f) d e (made_still meaning (placed area 0 (take j es)) a d (i.1 h t) t) (w h))))))
+    (and_then meaning (placed area 0 (take j es)) _ (Err f) a d e t (i.1 h t)
+    (λ u. made meaning (writes (spot area es j) (get_or es j blank).bytes) (Err f) d e u (w h))))))
 
 pub loop-j-preserved : goal.loop-j-preserved
 loop-j-preserved g c =
@@ -48,7 +48,7 @@ loop-j-preserved g c =
     subst (λ (x : ℕ). WriteDone (meaning d) x (get_or es j blank).bytes (meaning e)) c.page.ensures (does (i.0 h)).means in (
       λ h. (does (i.0 h)).agrees,
       λ h t. subst (λ (l : List Call). Makes meaning l (Ok tt) c.args.below.now e) (placed_more area es j lt)
-          (and_then meaning (placed area 0 (take j es)) _ (Ok tt) c.args.below.now d e (i.1 h t)
-          (made meaning (writes (spot area es j) (get_or es j blank).bytes) (Ok tt) d e (made_still meaning (placed area 0 (take j es)) c.args.below.now d (i.1 h t) t) (w h))),
+          (and_then meaning (placed area 0 (take j es)) _ (Ok tt) c.args.below.now d e t (i.1 h t)
+          (λ u. made meaning (writes (spot area es j) (get_or es j blank).bytes) (Ok tt) d e u (w h))),
       λ h r. wrote_more area es j (meaning c.args.below.now) (meaning d) (meaning e) r (i.2 h r) lt (g.D.Device.sound e (does (i.0 h)).agrees) (w h),
     )
