@@ -1,5 +1,5 @@
 -- The calls of a journal, for any device below it by its ghost members.
-use Rattle.std.proofs.Common.{◌≡◌, ℕ, ◌+◌, ◌<◌, Bool, true, false, ◌||◌, eqb, ltb, List, [], ◌++◌, length, Ok, Err, MatchBool, sym, refl, ap, ◌∙◌, subst, inl, inr, ⊎_elim, arith}
+use Rattle.std.proofs.Common.{◌≡◌, ℕ, ◌+◌, ◌<◌, Bool, true, false, ◌||◌, eqb, ltb, List, [], ◌++◌, length, Ok, Err, MatchBool, sym, refl, ap, subst, inl, inr, ⊎_elim, arith}
 use Rattle.std.proofs.lemmas.Bool.{cases_Bool, lt-ltb}
 use Rattle.device.specs.declared.DeviceFault.{DeviceFault}
 use Rattle.device.specs.declared.DeviceFault.TheVariants.{PowerLost, TooManyWaiting}
@@ -34,12 +34,10 @@ use Rattle.journal.proofs.Targets.{reads as read_back}
 
 -- what waits, and whether the journal is up, after it heard an answer
 heard_none : (up up' b : Bool) (v v' : Pending) → waiting v ≡ [] → MatchBool b ((up' ≡ false) × (waiting v' ≡ [])) ((up' ≡ up) × (waiting v' ≡ waiting v)) → waiting v' ≡ []
-heard_none up up' true v v' e h = h.1
-heard_none up up' false v v' e h = h.1 ∙ e
+heard_none up up' b v v' e h = grind arith
 
 heard_up : (up up' b : Bool) (v v' : Pending) → MatchBool b ((up' ≡ false) × (waiting v' ≡ [])) ((up' ≡ up) × (waiting v' ≡ waiting v)) → MatchBool b (up' ≡ false) (up' ≡ up)
-heard_up up up' true v v' h = h.0
-heard_up up up' false v v' h = h.0
+heard_up up up' b v v' h = grind arith
 
 -- what a restart sends below: a chain of calls, and with no page above the one restart
 module _ {X : Type 0} (meaning : X → Meaning) (d e : X) (r : Answer) where

@@ -94,5 +94,4 @@ module _ (T : State → List ℕ) (up : Bool) (es : List Entry) (m : Meaning) (s
     }
 
 pub committed_count : (T : State → List ℕ) (es : List Entry) (base : ℕ → State) (m n : Meaning) (r : Answer) → Committed T es base m r n → n.count ≡ m.count
-committed_count T es base m n (Ok _) d = d.ran.count
-committed_count T es base m n (Err e) d = d.1.left.count
+committed_count T es base m n r d = grind arith
