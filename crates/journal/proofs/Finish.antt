@@ -1,6 +1,7 @@
 -- The four steps of a sync, from the promises of the device below: each stays within its phase, and leads to the next.
-use Rattle.std.proofs.Common.{◌≡◌, ℕ, suc, ◌+◌, ◌-◌, ◌<◌, ◌≤◌, true, false, eqb, ◌⊎◌, List, [], ◌∷◌, length, get_or, Ok, Err, sym, refl, ap, ◌∙◌, inl, inr, ⊎_elim, arith}
-use Rattle.std.proofs.lemmas.Bool.{eqb-true, eq-eqb, cases_Bool, cond-true, cond-false, false≢true, both_ways}
+use Rattle.std.proofs.Common.{◌≡◌, ℕ, suc, ◌+◌, ◌-◌, ◌<◌, ◌≤◌, true, eqb, ◌⊎◌, List, [], ◌∷◌, length, get_or, Ok, Err, sym, refl, ap, ◌∙◌, inl, inr, ⊎_elim, arith}
+use Rattle.std.proofs.lemmas.Bool.{eqb-true, cases_Bool, cond-true, cond-false, false≢true, both_ways}
+use Rattle.std.proofs.lemmas.Bool.Decides.{nat_tests}
 use Rattle.device.specs.Meaning.{State, bytes, Meaning, Sound, Alike, has}
 use Rattle.device.specs.Promises.{GainsAt, WriteDone, SyncDone}
 use Rattle.device.specs.Calls.{Answer}
@@ -13,7 +14,7 @@ use Rattle.journal.specs.Crash.{Phase, Within, fresh, Bodies, Naming, Laying, Cl
 use Rattle.journal.specs.Writing.{Ready, OnlySpots, Wrote, WroteLost, HeadReady, HeadLost, HeadSet}
 use Rattle.journal.specs.Steps.{bodies, Settled, CutTo, LayReady, Finished, CommitReady, Committed}
 use Rattle.journal.specs.Sound.{pages_length}
-use Rattle.journal.proofs.Crash.{within_write, unnamed, bodies_ends, naming_ends, laying_ends, clearing_ends, bodies_synced, header_synced, homes_synced, clear_synced}
+use Rattle.journal.proofs.Crash.{within_write, unnamed, naming_ends, laying_ends, clearing_ends, bodies_synced, header_synced, homes_synced, clear_synced}
 use Rattle.journal.proofs.Helds.{has_later}
 
 pub whole_bodies : (es : List Entry) (ts : List ℕ) (j : ℕ) → whole ts j (bodies es) ≡ true
@@ -26,14 +27,11 @@ find_page : (es : List Entry) (k : ℕ) (B : ℕ → State) (i : ℕ) (d : State
 find_page [] k B i d h = absurd (false≢true h)
 find_page (e ∷ es) k B i d h = ⊎_elim
     (λ y. (0, omega arith, eqb-true e.page i y, cond-true (eqb e.page i) (B k) _ y ∙ ap B (let z : k ≡ k + 0 = omega arith in z)))
-    (λ n. let r = find_page es (suc k) B i d (rest n) in
+    (λ n. let r = find_page es (suc k) B i d (let z : has i (pages es) ≡ true = grind (arith, nat_tests) in z) in
     let lt = r.1 in
     let z : suc k + r.0 ≡ k + suc r.0 = omega arith in
     (suc r.0, omega arith, r.2, cond-false (eqb e.page i) (B k) _ n ∙ r.3 ∙ ap B z))
     (cases_Bool (eqb e.page i))
-  where
-    rest : eqb e.page i ≡ false → has i (pages es) ≡ true
-    rest n = ⊎_elim (λ y. absurd (both_ways _ n (eq-eqb e.page i (sym (eqb-true i e.page y))))) (λ m. sym (cond-false (eqb i e.page) true _ m) ∙ h) (cases_Bool (eqb i e.page))
 
 pub at_body : (es : List Entry) (j : ℕ) → bodies es (1 + j) ≡ bytes (get_or es j blank).bytes
 at_body es j = let z : (1 + j) - 1 ≡ j = omega arith in ap (λ (x : ℕ). bytes (get_or es x blank).bytes) z
@@ -133,14 +131,6 @@ module _ (T : State → List ℕ) (es : List Entry) (base : ℕ → State) (m : 
         home = λ i z. absurd (omega arith);
       })
       (g p s (omega arith) x)
-
-  -- power was lost in step 1
-  pub bodies_lost : (n : Meaning) → WroteLost Body es m n → CutTo T Either m n
-  bodies_lost n d = record {
-    left = d.left;
-    ends = λ e x. inl (fewer m n e _ d.left.count
-        (bodies_ends T (pages es) (bodies es) base n (bodies_within n d.left.count d.gains) e x));
-  }
 
   module _ (n : Meaning) (w : Wrote Body es (length es) m n) (sn : Sound n) (o : Meaning) (d : SyncDone n o) where
     naming : Within o (Naming T (pages es) (bodies es) base)

@@ -1,8 +1,8 @@
 -- What waits for a page.
-use Rattle.std.proofs.Common.{◌≡◌, ℕ, zero, suc, ◌<◌, true, false, cond, eqb, List, [], ◌∷◌, length, get_or, Some, None, sym, refl, ap, ◌∙◌, ⊎_elim, arith}
-use Rattle.std.specs.List.{find, position_or_len}
+use Rattle.std.proofs.Common.{◌≡◌, ℕ, zero, suc, ◌<◌, true, false, eqb, List, [], ◌∷◌, length, get_or, Some, None, sym, refl, ap, ◌∙◌, ⊎_elim, arith}
+use Rattle.std.specs.List.{position_or_len}
 use Rattle.std.specs.Option.{option_map, unwrap_or, is_some}
-use Rattle.std.proofs.lemmas.Bool.{eq-eqb, eqb-true, eqb-false, ne_eqb, cases_Bool, cases_lt, cond-true, cond-false, lt-ltb}
+use Rattle.std.proofs.lemmas.Bool.{eqb-true, eqb-false, cases_lt, cond-true, lt-ltb}
 use Rattle.std.proofs.lemmas.Bool.Decides.{nat_tests}
 use Rattle.std.proofs.lemmas.List.Sums.{fails_before_first}
 use Rattle.std.proofs.lemmas.List.Quantifiers.{position-Some}
@@ -12,12 +12,12 @@ use Rattle.journal.specs.Waiting.{blank, pages, held, place, look_up}
 
 pub has_later : (es : List Entry) (p j : ℕ) → j < length es → (get_or es j blank).page ≡ p → has p (pages es) ≡ true
 has_later [] p j h e = absurd (omega arith)
-has_later (d ∷ es) p zero h e = cond-true _ _ _ (eq-eqb p d.page (sym e))
-has_later (d ∷ es) p (suc j) h e = ⊎_elim (λ y. cond-true _ _ _ y) (λ n. cond-false _ _ _ n ∙ has_later es p j (omega arith) e) (cases_Bool (eqb p d.page))
+has_later (d ∷ es) p zero h e = grind (arith, nat_tests)
+has_later (d ∷ es) p (suc j) h e = let r = has_later es p j (omega arith) e in grind (arith, nat_tests)
 
 pub absent : (es : List Entry) (p : ℕ) → ((j : ℕ) → j < length es → (get_or es j blank).page ≡ p → ⊥) → has p (pages es) ≡ false
 absent [] p n = refl
-absent (x ∷ es) p n = cond-false _ _ _ (ne_eqb p x.page (λ e. n 0 (omega arith) (sym e))) ∙ absent es p (λ j l. n (suc j) (omega arith))
+absent (x ∷ es) p n = let r = absent es p (λ j l. n (suc j) (omega arith)) in let z = n 0 (omega arith) in grind (arith, nat_tests)
 
 -- page p waits, with these bytes
 pub record Held (es : List Entry) (p : ℕ) (buf : List ℕ) : Type 0 where
@@ -37,17 +37,11 @@ pub record At (es : List Entry) (p k : ℕ) : Type 0 where
 
 held_first : (es : List Entry) (p : ℕ) (d : State) → held es p d ≡ unwrap_or (option_map bytes (look_up es p)) d
 held_first [] p d = refl
-held_first (x ∷ es) p d = let r = held_first es p d in
-    elim (eqb x.page p) as (λ b. cond b (bytes x.bytes) (held es p d) ≡ unwrap_or (option_map bytes (option_map (λ e. e.bytes) (cond b (Some x) (find (λ e. eqb e.page p) es)))) d) [ true ↦ refl | false ↦ r ]
-
-turned : (a b : ℕ) → eqb a b ≡ eqb b a
-turned a b = grind (arith, nat_tests)
+held_first (x ∷ es) p d = grind (arith, nat_tests, held_first es p d)
 
 has_first : (es : List Entry) (p : ℕ) → has p (pages es) ≡ is_some (look_up es p)
 has_first [] p = refl
-has_first (x ∷ es) p = let r = has_first es p in
-    ap (λ b. cond b true (has p (pages es))) (turned p x.page)
-    ∙ elim (eqb x.page p) as (λ b. cond b true (has p (pages es)) ≡ is_some (option_map (λ e. e.bytes) (cond b (Some x) (find (λ e. eqb e.page p) es)))) [ true ↦ refl | false ↦ r ]
+has_first (x ∷ es) p = grind (arith, nat_tests, has_first es p)
 
 -- a page that is found waits with those bytes, and one that is not does not wait
 pub found : (es : List Entry) (p : ℕ) (b : List ℕ) → Some b ≡ look_up es p → Held es p b

@@ -1,6 +1,6 @@
 -- The calls of a journal, for any device below it by its ghost members.
-use Rattle.std.proofs.Common.{◌≡◌, ℕ, ◌+◌, ◌<◌, Bool, true, false, ◌||◌, eqb, ltb, List, [], ◌++◌, length, Ok, Err, MatchBool, sym, refl, ap, ◌∙◌, subst, inl, inr, ⊎_elim, arith}
-use Rattle.std.proofs.lemmas.Bool.{cases_Bool, eq-eqb, lt-ltb}
+use Rattle.std.proofs.Common.{◌≡◌, ℕ, ◌+◌, ◌<◌, Bool, true, false, ◌||◌, eqb, ltb, List, [], ◌++◌, length, Ok, Err, MatchBool, sym, refl, ap, subst, inl, inr, ⊎_elim, arith}
+use Rattle.std.proofs.lemmas.Bool.{cases_Bool, lt-ltb}
 use Rattle.device.specs.declared.DeviceFault.{DeviceFault}
 use Rattle.device.specs.declared.DeviceFault.TheVariants.{PowerLost, TooManyWaiting}
 use Rattle.device.specs.Meaning.{State, has, Meaning, Sound, SoundGroup}
@@ -29,17 +29,15 @@ use Rattle.journal.proofs.Helds.{Held, NotHeld}
 use Rattle.journal.proofs.Groups.{sound_group, went_discard, went_held, went_put, went_full}
 use Rattle.journal.proofs.Reading.{read_home, read_count, agrees_down}
 use Rattle.journal.proofs.Restored.{went_restart, recovered_count}
-use Rattle.journal.proofs.Synced.{commit_ready, went_sync, went_idle, committed_count}
+use Rattle.journal.proofs.Synced.{commit_ready, went_sync, committed_count}
 use Rattle.journal.proofs.Targets.{reads as read_back}
 
 -- what waits, and whether the journal is up, after it heard an answer
 heard_none : (up up' b : Bool) (v v' : Pending) → waiting v ≡ [] → MatchBool b ((up' ≡ false) × (waiting v' ≡ [])) ((up' ≡ up) × (waiting v' ≡ waiting v)) → waiting v' ≡ []
-heard_none up up' true v v' e h = h.1
-heard_none up up' false v v' e h = h.1 ∙ e
+heard_none up up' b v v' e h = grind arith
 
 heard_up : (up up' b : Bool) (v v' : Pending) → MatchBool b ((up' ≡ false) × (waiting v' ≡ [])) ((up' ≡ up) × (waiting v' ≡ waiting v)) → MatchBool b (up' ≡ false) (up' ≡ up)
-heard_up up up' true v v' h = h.0
-heard_up up up' false v v' h = h.0
+heard_up up up' b v v' h = grind arith
 
 -- what a restart sends below: a chain of calls, and with no page above the one restart
 module _ {X : Type 0} (meaning : X → Meaning) (d e : X) (r : Answer) where
@@ -56,12 +54,6 @@ module _ {X : Type 0} (meaning : X → Meaning) (d e : X) (r : Answer) where
       (cases_Bool (eqb (above (meaning x).count) 0))
   restarting_calls (Err f, (x, s, w)) = subst (λ (v : X). DeviceCalls meaning (lost r) d v) (sym w.1) (subst (λ (v : Answer). DeviceCalls meaning (lost v) d x) (sym w.0) (one restarts (Err f) x refl s))
 
-  bare_restart : above (meaning d).count ≡ 0 → Restarting meaning d r e → Step restarts (meaning d) r (meaning e)
-  bare_restart n (Ok u, (x, s, w)) =
-      let z = when_yes (eqb (above (meaning x).count) 0) _ _ (eq-eqb (above (meaning x).count) 0 (ap above s.ran.count ∙ n)) w in
-      subst (λ (v : X). Step restarts (meaning d) r (meaning v)) (sym z.1) (subst (λ (v : Answer). Step restarts (meaning d) v (meaning x)) (sym z.0) s)
-  bare_restart n (Err f, (x, s, w)) = subst (λ (v : X). Step restarts (meaning d) r (meaning v)) (sym w.1) (subst (λ (v : Answer). Step restarts (meaning d) v (meaning x)) (sym w.0) s)
-
 module _ {X : Type 0} (agrees : X → Type 0) (meaning : X → Meaning) (sound : (d : X) → agrees d → Sound (meaning d)) where
   pub group_of : (j : Journal X) → Agreeing agrees meaning j → SoundGroup (journaled meaning j) (grouping meaning j)
   group_of j h = sound_group (reader (meaning j.below)) j.up (waiting j.pending) (meaning j.below) (sound j.below h.0) h.1
@@ -70,9 +62,9 @@ module _ {X : Type 0} (agrees : X → Type 0) (meaning : X → Meaning) (sound :
   pub new_agrees : (j : Journal X) (d : X) → j.below ≡ d → j.up ≡ false → waiting j.pending ≡ [] → agrees d → Agreeing agrees meaning j
   new_agrees j d b u e h = (subst agrees (sym b) h, agrees_down (reader (meaning j.below)) j.up (waiting j.pending) (meaning j.below) u e)
 
-  -- what is told of a call k from j to j', answered r
+  -- what is told of a call k from j to j', answered r, beside what goes below in it
   abbrev pub Told : Call → Journal X → Answer → Journal X → Type 0
-  Told k j r j' = GroupDoing agrees meaning k j r j' × Calling agrees meaning k j r j' × Sending agrees meaning k j r j'
+  Told k j r j' = GroupDoing agrees meaning k j r j' × Calling agrees meaning k j r j'
 
   module _ (k : Call) (j j' : Journal X) (r : Answer) where
     abbrev Goes : Type 0
@@ -90,7 +82,7 @@ module _ {X : Type 0} (agrees : X → Type 0) (meaning : X → Meaning) (sound :
         }
 
     -- nothing goes below
-    unmoved : lost r ≡ false → j'.below ≡ j.below → Calling agrees meaning k j r j'
+    pub unmoved : lost r ≡ false → j'.below ≡ j.below → Calling agrees meaning k j r j'
     unmoved l b h = either_way (always k || j.up) _ _ (subst (λ (x : X). DeviceCalls meaning (lost r) j.below x) (sym b) (subst (λ (t : Bool). DeviceCalls meaning t j.below j.below) (sym l) none)) b
 
   -- the checks refuse a read or a write
@@ -102,47 +94,34 @@ module _ {X : Type 0} (agrees : X → Type 0) (meaning : X → Meaning) (sound :
     refused_read = (
       doing (reads p buf buf) j j (Err e) (λ h. (h.0, refl, record { agrees = h.1; means = (gate_read count p buf (journaled meaning j) is e gate, leaves_self (journaled meaning j) (grouping meaning j) e) })),
       λ h. refused_calls,
-      λ h. (either_way (has p (pages (waiting j.pending))) _ _ refl (inl refl), λ _. refl),
     )
 
     pub refused_write : Told (writes p buf) j (Err e) j
     refused_write = (
       doing (writes p buf) j j (Err e) (λ h. (h.0, refl, record { agrees = h.1; means = (gate_write count p buf (journaled meaning j) is e gate, leaves_self (journaled meaning j) (grouping meaning j) e) })),
       λ h. refused_calls,
-      λ h. (refl, λ _. refl),
     )
 
   -- a down journal refuses a sync and a discard
   module _ (j : Journal X) (d : j.up ≡ false) where
-    pub down_sync : Told syncs j (Err PowerLost) j
-    down_sync = (
-      doing syncs j j (Err PowerLost) (λ h. (
-        h.0,
-        refl,
-        record {
-          agrees = h.1;
-          means = ((refl, lost_self (journaled meaning j) d), when_false j.up _ _ d (no_end_self (above (meaning j.below).count) (grouping meaning j)));
-        },
-      )),
-      λ h. when_false j.up _ _ d refl,
-      λ h. (when_false j.up _ _ d refl, λ _. refl),
-    )
+    pub down_sync : GroupDoing agrees meaning syncs j (Err PowerLost) j
+    down_sync = doing syncs j j (Err PowerLost) (λ h. (
+      h.0,
+      refl,
+      record {
+        agrees = h.1;
+        means = ((refl, lost_self (journaled meaning j) d), when_false j.up _ _ d (no_end_self (above (meaning j.below).count) (grouping meaning j)));
+      },
+    ))
 
-    pub down_discard : Told discards j (Err PowerLost) j
-    down_discard = (
-      doing discards j j (Err PowerLost) (λ h. (
-        h.0,
-        refl,
-        record {
-          agrees = h.1;
-          means = (refl, lost_self (journaled meaning j) d, no_end_self (above (meaning j.below).count) (grouping meaning j));
-        },
-      )),
-      λ h. when_false j.up _ _ d refl,
-      λ h. (refl, λ _. refl),
-    )
+    pub down_discard : GroupDoing agrees meaning discards j (Err PowerLost) j
+    down_discard = doing discards j j (Err PowerLost) (λ h. (
+      h.0,
+      refl,
+      record { agrees = h.1; means = (refl, lost_self (journaled meaning j) d, no_end_self (above (meaning j.below).count) (grouping meaning j)) },
+    ))
 
-  -- what stays in memory: a page that waits is read, a page is written, all is discarded, a sync finds nothing; v is what waits then
+  -- what stays in memory: a page that waits is read, a page is written, all is discarded; v is what waits then
   module _ (j : Journal X) (t : j.up ≡ true) (v : Pending) where
     abbrev with_v : Journal X
     with_v = record { below = j.below; up = j.up; pending = v }
@@ -152,21 +131,18 @@ module _ {X : Type 0} (agrees : X → Type 0) (meaning : X → Meaning) (sound :
       held_read buf' x = (
         doing (reads p buf buf') j j (Ok tt) (λ h. (h.0, refl, went_held (reader (meaning j.below)) j.up (waiting j.pending) (meaning j.below) (sound j.below h.0) h.1 p buf buf' t (record { within = w; size = len }) x.shows)),
         unmoved (reads p buf buf') j j (Ok tt) refl refl,
-        λ h. (when_true (has p (pages (waiting j.pending))) _ _ x.waits refl, λ _. refl),
       )
 
       put_write : PutDone (waiting j.pending) p buf (waiting v) → Told (writes p buf) j (Ok tt) with_v
       put_write x = (
         doing (writes p buf) j with_v (Ok tt) (λ h. (h.0, refl, went_put (reader (meaning j.below)) j.up (waiting j.pending) (meaning j.below) (sound j.below h.0) h.1 p buf t (record { within = w; size = len }) (waiting v) x)),
         unmoved (writes p buf) j with_v (Ok tt) refl refl,
-        λ h. (refl, λ _. refl),
       )
 
       full_write : PutFull (waiting j.pending) p (waiting v) → Told (writes p buf) j (Err TooManyWaiting) with_v
       full_write x = (
         doing (writes p buf) j with_v (Err TooManyWaiting) (λ h. (h.0, refl, went_full (reader (meaning j.below)) j.up (waiting j.pending) (meaning j.below) (sound j.below h.0) h.1 p buf t (record { within = w; size = len }) (waiting v) x)),
         unmoved (writes p buf) j with_v (Err TooManyWaiting) refl refl,
-        λ h. (refl, λ _. refl),
       )
 
       pub kept_write : (r : Answer) → Put (waiting j.pending) p buf r (waiting v) → Told (writes p buf) j r with_v
@@ -182,14 +158,6 @@ module _ {X : Type 0} (agrees : X → Type 0) (meaning : X → Meaning) (sound :
             (went_discard (reader (meaning j.below)) j.up (waiting j.pending) (meaning j.below) (sound j.below h.0) h.1 t),
       )),
       unmoved discards j with_v (Ok tt) refl refl,
-      λ h. (refl, λ _. refl),
-    )
-
-    pub idle_sync : waiting j.pending ≡ [] → Told syncs j (Ok tt) j
-    idle_sync e = (
-      doing syncs j j (Ok tt) (λ h. (h.0, refl, went_idle (reader (meaning j.below)) j.up (waiting j.pending) (meaning j.below) (sound j.below h.0) t h.1 e)),
-      unmoved syncs j j (Ok tt) refl refl,
-      λ h. (when_true j.up _ _ t (when_false (ltb 0 (length (waiting j.pending))) _ _ (ap (λ (l : List Entry). ltb 0 (length l)) e) refl), λ _. refl),
     )
 
   -- calls that go below: they lead from j.below to x and are answered r; the journal is then j', and answers a
@@ -198,15 +166,17 @@ module _ {X : Type 0} (agrees : X → Type 0) (meaning : X → Meaning) (sound :
     moved P h = subst (λ (y : X). P a y) (sym below) (subst (λ (s : Answer). P s x) (sym same) h)
 
     pub home_read : (p : ℕ) (buf buf' : List ℕ) → j.up ≡ true → p < above (meaning j.below).count → length buf ≡ 252 → NotHeld (waiting j.pending) p
-        → Heard j.up j.pending r j'.up j'.pending → Does agrees meaning (reads (65 + p) buf buf') j.below r x → Told (reads p buf buf') j a j'
+        → Heard j.up j.pending r j'.up j'.pending → Does agrees meaning (reads (65 + p) buf buf') j.below r x → Told (reads p buf buf') j a j' × Sending agrees meaning (reads p buf buf') j a j'
     home_read p buf buf' t w len away heard d = (
-      doing (reads p buf buf') j j' a (λ h. let y = does h.0 in (
-        y.agrees,
-        read_count m (meaning j'.below) (65 + p) buf buf' a y.means,
-        read_home (reader m) j.up j'.up (waiting j.pending) (waiting j'.pending) m (meaning j'.below) p buf buf' t w len away.home h.1 a
-            (subst (λ (s : Answer). Heard j.up j.pending s j'.up j'.pending) (sym same) heard) y.means,
-      )),
-      λ h. when_true j.up _ _ t (one (reads (65 + p) buf buf') a j'.below (h.1.below t) (does h.0).means),
+      (
+        doing (reads p buf buf') j j' a (λ h. let y = does h.0 in (
+          y.agrees,
+          read_count m (meaning j'.below) (65 + p) buf buf' a y.means,
+          read_home (reader m) j.up j'.up (waiting j.pending) (waiting j'.pending) m (meaning j'.below) p buf buf' t w len away.home h.1 a
+              (subst (λ (s : Answer). Heard j.up j.pending s j'.up j'.pending) (sym same) heard) y.means,
+        )),
+        λ h. when_true j.up _ _ t (one (reads (65 + p) buf buf') a j'.below (h.1.below t) (does h.0).means),
+      ),
       λ h. (when_false (has p (pages (waiting j.pending))) _ _ away.absent (inr (does h.0).means), λ z. absurd (let v = w in omega arith)),
     )
       where
@@ -220,7 +190,7 @@ module _ {X : Type 0} (agrees : X → Type 0) (meaning : X → Meaning) (sound :
         → (agrees j.below → agrees x)
         → (agrees j.below → (meaning j.below).runs ≡ true → Makes meaning (step1 (waiting j.pending) ++ (step2 (waiting j.pending) ++ (step3 (waiting j.pending) ++ step4))) r j.below x)
         → (agrees j.below → (T : State → List ℕ) (base : ℕ → State) → CommitReady T (waiting j.pending) base (meaning j.below) → Committed T (waiting j.pending) base (meaning j.below) r (meaning x))
-        → Told syncs j a j'
+        → GroupDoing agrees meaning syncs j a j' × Sending agrees meaning syncs j a j'
     synced v t some cleared heard keeps makes commits = (
       doing syncs j j' a (λ h. (
         still h.0,
@@ -228,7 +198,6 @@ module _ {X : Type 0} (agrees : X → Type 0) (meaning : X → Meaning) (sound :
         subst (λ (l : List Entry). Went syncs T j.up es m a j'.up l n) (sym (heard_none j.up j'.up (lost a) v j'.pending cleared told))
             (went_sync T j.up es m (sound j.below h.0) t h.1 n (sound j'.below (still h.0)) j'.up a (heard_up j.up j'.up (lost a) v j'.pending told) (done h)),
       )),
-      λ h. when_true j.up _ _ t (sent h).0,
       λ h. (when_true j.up _ _ t (when_true (ltb 0 (length es)) _ _ (lt-ltb 0 (length es) some) (sent h)), λ z. absurd (let y = fit_page (above m.count) es 0 some h.1.fit in omega arith)),
     )
       where
@@ -266,7 +235,6 @@ module _ {X : Type 0} (agrees : X → Type 0) (meaning : X → Meaning) (sound :
             (went_restart T j.up (waiting j.pending) m n (sound j'.below (still h.0)) j'.up a (subst (λ (s : Answer). Revived s j'.up) (sym same) revived) (done h.0)),
       )),
       λ h. restarting_calls meaning j.below j'.below a (sent h.0),
-      λ h. (sent h.0, λ z. bare_restart meaning j.below j'.below a z (sent h.0)),
     )
       where
         m : Meaning

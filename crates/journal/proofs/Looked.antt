@@ -3,9 +3,8 @@ use Rattle.std.proofs.Common.{◌≡◌, ℕ, zero, suc, ◌+◌, ◌<◌, ◌�
 use Rattle.std.proofs.lemmas.List.{get_or_push, get_or_append_left, length_push, length-take-le, take_more, take_all}
 use Rattle.std.proofs.lemmas.Bool.{cases_eq, and_left, and_right}
 use Rattle.device.specs.declared.DeviceFault.{DeviceFault}
-use Rattle.device.specs.declared.DeviceFault.TheVariants.{NoSuchPage, BufferSize, PowerLost, PageSpoiled, TooManyWaiting}
 use Rattle.device.specs.Meaning.{State, bytes, spoiled, Meaning}
-use Rattle.device.specs.Promises.{Same, Lost, Read}
+use Rattle.device.specs.Promises.{Same, Lost}
 use Rattle.device.specs.Calls.{Answer, shown_page, lost}
 use Rattle.device.proofs.Meanings.{same_self}
 use Rattle.journal.specs.declared.entries.Entry.{Entry}
@@ -39,20 +38,7 @@ awake_same m n s a = record { running = s.runs ∙ a.running; room = let c = s.c
 
 -- a read of one page
 pub look_lost : (r : Answer) (buf : List ℕ) → lost r ≡ lost (bare (shown_page r buf))
-look_lost (Ok _) buf = refl
-look_lost (Err NoSuchPage) buf = refl
-look_lost (Err BufferSize) buf = refl
-look_lost (Err PowerLost) buf = refl
-look_lost (Err PageSpoiled) buf = refl
-look_lost (Err TooManyWaiting) buf = refl
-
-pub looked : (m n : Meaning) (p : ℕ) (buf buf' : List ℕ) (r : Answer) → length buf ≡ 252 → p < m.count → Read m p buf r buf' n → Looked m p (shown_page r buf') n
-looked m n p buf buf' (Ok _) len h d = (d.value, d.same)
-looked m n p buf buf' (Err NoSuchPage) len h d = let a = d.1.past in absurd (omega arith)
-looked m n p buf buf' (Err BufferSize) len h d = absurd (d.1.size len)
-looked m n p buf buf' (Err PowerLost) len h d = (refl, d.1.lost)
-looked m n p buf buf' (Err PageSpoiled) len h d = (d.1.value, d.1.same)
-looked m n p buf buf' (Err TooManyWaiting) len h d = absurd d.1
+look_lost r buf = grind arith
 
 -- a spoiled body is no group's
 whole_broken : (ts : List ℕ) (k j : ℕ) (f : ℕ → State) → j < length ts → f (k + j) ≡ spoiled → whole ts k f ≡ false
@@ -101,9 +87,6 @@ module _ (ts : List ℕ) (m : Meaning) (few : length ts ≤ 64) (a : Awake m) wh
 
     pub load_broken : (n.shown (1 + j) ≡ spoiled) × Same n o → (whole ts 1 m.shown ≡ false) × Same m o
     load_broken b = (whole_broken ts 1 j m.shown lt (sym shown_at ∙ b.0), same_trans m n o l.same b.1)
-
-    pub load_lost : Lost n o → Lost m o
-    load_lost b = same_lost m n o l.same b
 
 -- whether what was loaded is a group that stood: n is what was read after the header, with its targets ts
 module _ (T : State → List ℕ) (m n : Meaning) (ts : List ℕ) (few : length ts ≤ 64) (some : 0 < length ts) (a : Awake m) (e : ts ≡ T (m.shown 0)) (s : Same m n) where

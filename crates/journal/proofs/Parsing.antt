@@ -1,7 +1,7 @@
 -- What the reader of a header finds.
-use Rattle.std.proofs.Common.{◌≡◌, ℕ, zero, suc, ◌+◌, ◌-◌, ◌*◌, ◌/◌, ◌%◌, ◌<◌, ◌≤◌, Bool, true, false, cond, not, ◌&&◌, ◌||◌, eqb, ltb, leb, List, [], ◌∷◌, ◌++◌, length, get_or, take, drop, Option, Some, None, MatchOption, MatchBool, sym, refl, ap, ◌∙◌, ⊎_elim, arith}
-use Rattle.std.proofs.lemmas.List.{at_drop_more, take_more, append_assoc, length-take-le}
-use Rattle.std.proofs.lemmas.Bool.{lt-ltb, le-leb, le-ltb, leb-true, and_left, and_right, and_from, and_parts, not_from_false, cases_Bool, cond-true, cond-false, false≢true}
+use Rattle.std.proofs.Common.{◌≡◌, ℕ, zero, suc, ◌+◌, ◌*◌, ◌/◌, ◌%◌, ◌<◌, ◌≤◌, Bool, true, false, ◌&&◌, eqb, leb, List, [], ◌∷◌, ◌++◌, length, get_or, drop, Option, Some, None, MatchOption, MatchBool, sym, refl, ap, ◌∙◌, ⊎_elim, arith, map}
+use Rattle.std.proofs.lemmas.List.{at_drop_more}
+use Rattle.std.proofs.lemmas.Bool.{le-leb, leb-true, and_from, and_parts, cases_Bool, cond-true, cond-false, false≢true}
 use Rattle.std.specs.Borrow.{Bor}
 use Rattle.std.specs.List.{list_any}
 use Rattle.std.specs.Simd.{first_chunks}
@@ -12,74 +12,37 @@ use Rattle.layout.proofs.Envelopes.{envelope_inj, envelope_length, body_part-env
 use Rattle.device.specs.Meaning.{bytes, has}
 use Rattle.journal.specs.declared.entries.Entry.{Entry}
 use Rattle.journal.specs.Waiting.{pages}
-use Rattle.journal.specs.Header.{two_bytes, pairs, Numbers, header, all_below, distinct, once, names, named, targets}
-
-and_skip : (x y : Bool) → x ≡ true → (x && y) ≡ y
-and_skip true y e = refl
-and_skip false y e = absurd (false≢true e)
-
-turned : (a b : ℕ) → eqb a b ≡ eqb b a
-turned a b = grind (arith, nat_tests)
+use Rattle.journal.specs.Header.{two_bytes, pairs, Numbers, header, once, names, named, targets}
 
 -- what `contains` answers
 pub has_any : (p : ℕ) (xs : List ℕ) → list_any (λ y. eqb y p) xs ≡ has p xs
 has_any p [] = refl
-has_any p (x ∷ xs) = ap (λ b. b || list_any (λ y. eqb y p) xs) (turned x p) ∙ ap (λ b. eqb p x || b) (has_any p xs) ∙ elim (eqb p x) as (λ b. (b || has p xs) ≡ cond b true (has p xs)) [ true ↦ refl | false ↦ refl ]
-
-once_cons : (n t : ℕ) (ts : List ℕ) → t < n → has t ts ≡ false → once n (t ∷ ts) ≡ once n ts
-once_cons n t ts h e =
-    let a : (ltb t n && all_below n ts) ≡ all_below n ts = and_skip (ltb t n) (all_below n ts) (lt-ltb t n h) in
-    let b : (not (has t ts) && distinct ts) ≡ distinct ts = and_skip (not (has t ts)) (distinct ts) (not_from_false (has t ts) e) in
-    ap (λ (x : Bool). x && (not (has t ts) && distinct ts)) a ∙ ap (λ (x : Bool). all_below n ts && x) b
+has_any p (x ∷ xs) = grind (arith, nat_tests, has_any p xs)
 
 pub once_more : (n : ℕ) (xs : List ℕ) (i : ℕ) → i < length xs → get_or xs i 0 < n → has (get_or xs i 0) (drop (i + 1) xs) ≡ false → once n (drop i xs) ≡ once n (drop (i + 1) xs)
-once_more n xs i h l e = at_drop_more (once n) xs i 0 h ∙ once_cons n (get_or xs i 0) (drop (i + 1) xs) l e
+once_more n xs i h l e = at_drop_more (once n) xs i 0 h ∙ grind (arith, nat_tests)
 
 pub once_past : (n : ℕ) (xs : List ℕ) (i : ℕ) → i < length xs → n ≤ get_or xs i 0 → once n (drop i xs) ≡ false
-once_past n xs i h l = at_drop_more (once n) xs i 0 h
-    ∙ and_left (all_below n (get_or xs i 0 ∷ drop (i + 1) xs)) (distinct (get_or xs i 0 ∷ drop (i + 1) xs)) (and_left (ltb (get_or xs i 0) n) (all_below n (drop (i + 1) xs)) (le-ltb (get_or xs i 0) n l))
+once_past n xs i h l = at_drop_more (once n) xs i 0 h ∙ grind (arith, nat_tests)
 
 pub once_again : (n : ℕ) (xs : List ℕ) (i : ℕ) → i < length xs → has (get_or xs i 0) (drop (i + 1) xs) ≡ true → once n (drop i xs) ≡ false
-once_again n xs i h e = at_drop_more (once n) xs i 0 h
-    ∙ and_right (all_below n (get_or xs i 0 ∷ drop (i + 1) xs)) (distinct (get_or xs i 0 ∷ drop (i + 1) xs)) (and_left (not (has (get_or xs i 0) (drop (i + 1) xs))) (distinct (drop (i + 1) xs)) (ap not e))
+once_again n xs i h e = at_drop_more (once n) xs i 0 h ∙ grind (arith, nat_tests)
 
--- the numbers read so far
-pairs_push : (xs : List ℕ) (j h l : ℕ) → length xs ≡ 2 * j → pairs (xs ++ h ∷ l ∷ []) ≡ pairs xs ++ (h * 256 + l) ∷ []
-pairs_push [] j h l e = refl
-pairs_push (a ∷ []) j h l e = absurd (omega arith)
-pairs_push (a ∷ (b ∷ xs)) j h l e = ap (λ (r : List ℕ). (a * 256 + b) ∷ r) (pairs_push xs (j - 1) h l (omega arith))
-
-pub pairs_more : (ys : List ℕ) (j : ℕ) → 2 * j + 1 < length ys → pairs (take (2 * (j + 1)) ys) ≡ pairs (take (2 * j) ys) ++ (get_or ys (2 * j) 0 * 256 + get_or ys (2 * j + 1) 0) ∷ []
-pairs_more ys j h =
-    let a : ℕ = get_or ys (2 * j) 0 in
-    let b : ℕ = get_or ys (2 * j + 1) 0 in
-    let one : take (2 * j + 1) ys ≡ take (2 * j) ys ++ a ∷ [] = take_more ys (2 * j) 0 (omega arith) in
-    let two : take (2 * j + 1 + 1) ys ≡ take (2 * j + 1) ys ++ b ∷ [] = take_more ys (2 * j + 1) 0 (omega arith) in
-    ap (λ (k : ℕ). pairs (take k ys)) (let z : 2 * (j + 1) ≡ 2 * j + 1 + 1 = omega arith in z)
-    ∙ ap pairs (two ∙ ap (λ (l : List ℕ). l ++ b ∷ []) one ∙ append_assoc (take (2 * j) ys) (a ∷ []) (b ∷ []))
-    ∙ pairs_push (take (2 * j) ys) j a b (length-take-le (2 * j) ys (omega arith))
-
--- two bytes of a body, cut into twos
-pub chunk_at : (m : ℕ) (xs : List ℕ) (k : ℕ) → k < m → 2 * m ≤ length xs → get_or (first_chunks 2 m xs) k [] ≡ get_or xs (2 * k) 0 ∷ get_or xs (2 * k + 1) 0 ∷ []
-chunk_at zero xs k h l = absurd (omega arith)
-chunk_at (suc m) [] k h l = absurd (omega arith)
-chunk_at (suc m) (a ∷ []) k h l = absurd (omega arith)
-chunk_at (suc m) (a ∷ (b ∷ xs)) zero h l = refl
-chunk_at (suc m) (a ∷ (b ∷ xs)) (suc k) h l =
-    let e : 2 * suc k ≡ suc (suc (2 * k)) = omega arith in
-    let f : 2 * suc k + 1 ≡ suc (suc (2 * k + 1)) = omega arith in
-    chunk_at m xs k (omega arith) (omega arith)
-    ∙ sym (ap (λ (j : ℕ). get_or (a ∷ (b ∷ xs)) j 0 ∷ get_or (a ∷ (b ∷ xs)) (2 * suc k + 1) 0 ∷ []) e ∙ ap (λ (j : ℕ). get_or xs (2 * k) 0 ∷ get_or (a ∷ (b ∷ xs)) j 0 ∷ []) f)
+-- the number that two bytes make
+abbrev pub word : List ℕ → ℕ
+word c = get_or c 0 0 * 256 + get_or c 1 0
 
 -- bytes that make numbers are those of the numbers
-pub bytes_back : (b : List ℕ) (k : ℕ) → length b ≡ 2 * k → ((i : ℕ) → get_or b i 0 < 256) → two_bytes (pairs b) ≡ b
-bytes_back [] k e s = refl
-bytes_back (h ∷ []) k e s = absurd (omega arith)
-bytes_back (h ∷ (l ∷ rest)) k e s =
+pub bytes_back : (k : ℕ) (b : List ℕ) → length b ≡ 2 * k → ((i : ℕ) → get_or b i 0 < 256) → two_bytes (map word (first_chunks 2 k b)) ≡ b
+bytes_back zero [] e s = refl
+bytes_back zero (h ∷ b) e s = absurd (omega arith)
+bytes_back (suc k) [] e s = absurd (omega arith)
+bytes_back (suc k) (h ∷ []) e s = absurd (omega arith)
+bytes_back (suc k) (h ∷ (l ∷ rest)) e s =
     let low : l < 256 = s 1 in
     let a : (h * 256 + l) / 256 ≡ h = omega arith in
     let b : (h * 256 + l) % 256 ≡ l = omega arith in
-    let r : two_bytes (pairs rest) ≡ rest = bytes_back rest (k - 1) (omega arith) (λ i. s (suc (suc i))) in
+    let r = bytes_back k rest (omega arith) (λ i. s (suc (suc i))) in
     λ i. a i ∷ b i ∷ r i
 
 -- numbers are those that their bytes make
@@ -90,6 +53,9 @@ numbers_back (t ∷ ts) = let a : t / 256 * 256 + t % 256 ≡ t = omega arith in
 pub two_length : (ts : List ℕ) → length (two_bytes ts) ≡ 2 * length ts
 two_length [] = refl
 two_length (t ∷ ts) = let h = two_length ts in omega arith
+
+pub numbers_length : (body ts : List ℕ) → Numbers body ts → length body ≡ 2 * length ts
+numbers_length body ts k = sym (ap length k.made) ∙ two_length ts
 
 pub two_push : (ts : List ℕ) (t : ℕ) → two_bytes (ts ++ t ∷ []) ≡ two_bytes ts ++ (t / 256 ∷ t % 256 ∷ [])
 two_push [] t = refl

@@ -118,9 +118,4 @@ module _ (T : State → List ℕ) (up up' : Bool) (es es' : List Entry) (m n : M
 
 -- a read leaves the count
 pub read_count : (m n : Meaning) (p : ℕ) (buf buf' : List ℕ) (r : Answer) → Read m p buf r buf' n → n.count ≡ m.count
-read_count m n p buf buf' (Ok _) d = d.same.count
-read_count m n p buf buf' (Err NoSuchPage) d = d.1.same.count
-read_count m n p buf buf' (Err BufferSize) d = d.1.same.count
-read_count m n p buf buf' (Err PowerLost) d = d.1.lost.left.count
-read_count m n p buf buf' (Err PageSpoiled) d = d.1.same.count
-read_count m n p buf buf' (Err TooManyWaiting) d = absurd d.1
+read_count m n p buf buf' r d = grind arith

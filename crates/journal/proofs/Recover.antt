@@ -1,16 +1,15 @@
 -- A restart of the device below and what follows leave one of the ends.
-use Rattle.std.proofs.Common.{◌≡◌, ℕ, suc, ◌+◌, ◌<◌, ◌≤◌, true, not, ◌&&◌, ltb, leb, ◌≢◌, List, [], ◌∷◌, length, get_or, Ok, Err, sym, refl, ap, ◌∙◌, subst, inl, inr, ⊎_elim, arith}
+use Rattle.std.proofs.Common.{◌≡◌, ℕ, suc, ◌+◌, ◌<◌, ◌≤◌, true, ◌≢◌, List, [], ◌∷◌, length, get_or, Ok, Err, sym, refl, ap, ◌∙◌, subst, inl, inr, ⊎_elim, arith}
 use Rattle.std.proofs.lemmas.List.{take_all}
-use Rattle.std.proofs.lemmas.Bool.{cases_Bool, cases_lt, cond-true, cond-false, and_parts, ltb-true, not-true}
-use Rattle.device.specs.declared.DeviceFault.{DeviceFault}
-use Rattle.device.specs.Meaning.{State, bytes, spoiled, Meaning, Sound, has, Distinct}
-use Rattle.device.specs.Promises.{Same, Lost, Restart, RestartDone}
-use Rattle.device.specs.Numbers.{number}
+use Rattle.std.proofs.lemmas.Bool.{cases_lt, and_parts}
+use Rattle.std.proofs.lemmas.Bool.Decides.{nat_tests}
+use Rattle.device.specs.Meaning.{State, bytes, spoiled, Meaning, Sound, Distinct}
+use Rattle.device.specs.Promises.{Same, RestartDone}
 use Rattle.device.specs.Calls.{Answer}
 use Rattle.journal.specs.declared.entries.Entry.{Entry}
 use Rattle.journal.specs.Waiting.{blank, pages, AllFit}
-use Rattle.layout.specs.Envelope.{body_part, same}
-use Rattle.journal.specs.Header.{pairs, header, all_below, distinct, once, names, named, targets}
+use Rattle.layout.specs.Envelope.{body_part}
+use Rattle.journal.specs.Header.{pairs, header, all_below, distinct, once, named, targets}
 use Rattle.journal.specs.Standing.{above, whole, laid, home}
 use Rattle.journal.specs.Crash.{fresh}
 use Rattle.journal.specs.Sound.{short, pages_length}
@@ -20,7 +19,6 @@ use Rattle.journal.specs.Writing.{HeadSet}
 use Rattle.journal.specs.Steps.{bodies, LayReady, Finished}
 use Rattle.journal.specs.Recovery.{LoadedTo, FoundGroup, ClearReady, Cleared, Recovered}
 use Rattle.journal.proofs.Crash.{laid_none, laid_broken, whole_same}
-use Rattle.journal.proofs.Ended.{ends_from}
 use Rattle.journal.proofs.Finish.{at_body, whole_bodies}
 use Rattle.journal.proofs.Fitting.{fit_page, fit_size, apart_pages}
 use Rattle.journal.proofs.Targets.{reads, reads_none}
@@ -29,10 +27,7 @@ use Rattle.journal.proofs.Cleared.{cleared_lost, cleared_done}
 
 -- what a header names is below the count and distinct
 named_once : (n : ℕ) (page ts : List ℕ) → once n (named n page ts) ≡ true
-named_once n page ts = ⊎_elim
-    (λ y. ap (once n) (cond-true (names n page ts) ts [] y) ∙ (and_parts (leb (length ts) 64) (once n ts) (and_parts (same page (header ts)) (leb (length ts) 64 && once n ts) y).1).1)
-    (λ z. ap (once n) (cond-false (names n page ts) ts [] z))
-    (cases_Bool (names n page ts))
+named_once n page ts = grind (arith, nat_tests)
 
 targets_once : (n : ℕ) (s : State) → once n (targets n s) ≡ true
 targets_once n spoiled = refl
@@ -40,19 +35,18 @@ targets_once n (bytes page) = named_once n page (pairs (body_part page))
 
 below_none : (ts : List ℕ) → all_below 0 ts ≡ true → ts ≡ []
 below_none [] e = refl
-below_none (t ∷ ts) e = let h = ltb-true t 0 (and_parts (ltb t 0) (all_below 0 ts) e).0 in absurd (omega arith)
+below_none (t ∷ ts) e = grind (arith, nat_tests)
 
 no_targets : (s : State) → targets 0 s ≡ []
 no_targets s = below_none (targets 0 s) (and_parts (all_below 0 (targets 0 s)) (distinct (targets 0 s)) (targets_once 0 s)).0
 
 fit_from : (n : ℕ) (es : List Entry) → all_below n (pages es) ≡ true → ((j : ℕ) → j < length es → length (get_or es j blank).bytes ≡ 252) → AllFit n es
 fit_from n [] b p = tt
-fit_from n (e ∷ es) b p = let q = and_parts (ltb e.page n) (all_below n (pages es)) b in
-    (ltb-true e.page n q.0, p 0 (omega arith), fit_from n es q.1 (λ j l. p (suc j) (omega arith)))
+fit_from n (e ∷ es) b p = let z = p 0 (omega arith) in let r = λ (b : all_below n (pages es) ≡ true). fit_from n es b (λ j l. p (suc j) (omega arith)) in grind (arith, nat_tests, r)
 
 distinct_from : (ts : List ℕ) → distinct ts ≡ true → Distinct ts
 distinct_from [] e = tt
-distinct_from (t ∷ ts) e = let q = and_parts (not (has t ts)) (distinct ts) e in (not-true (has t ts) q.0, distinct_from ts q.1)
+distinct_from (t ∷ ts) e = grind (arith, nat_tests, distinct_from ts)
 
 -- reads change nothing of what a restart left
 restart_same : (m n o : Meaning) → RestartDone m n → Same n o → RestartDone m o
@@ -62,19 +56,6 @@ restart_same m n o r s = let c = r.ran.count in record {
   only = λ i x h y. let l : i < n.count = omega arith in r.only i x h (s.no_more i x l y) ∙ sym (s.shown i l);
   waits = s.waits ∙ r.waits;
 }
-
-pub recover_err : (T : State → List ℕ) (m n : Meaning) (e : DeviceFault) → Restart m (Err e) n → Recovered T m (Err e) n
-recover_err T m n e d = (d.0, record { left = d.1.left; ends = λ e x. ends_from T m n d.1.left.count d.1.fates e x })
-
--- power was lost while the group was read
-pub lost_after : (T : State → List ℕ) (m n o : Meaning) (e : DeviceFault) → RestartDone m n → (number e ≡ 11) × Lost n o → Recovered T m (Err e) o
-lost_after T m n o e r l = let c = r.ran.count in let k : o.count ≡ m.count = l.1.left.count ∙ c in (
-  l.0,
-  record {
-    left = record { count = k; down = l.1.left.down };
-    ends = λ e x. ends_from T m o k (λ i s h y. subst (m.fates i) (sym (r.only i s h (l.1.fates i s (omega arith) y))) (r.shown i h)) e x;
-  },
-)
 
 -- with no page above there is nothing more to do
 pub none_above : (m n : Meaning) → RestartDone m n → above n.count ≡ 0 → Recovered (reader m) m (Ok tt) n

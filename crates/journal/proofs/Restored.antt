@@ -13,8 +13,7 @@ use Rattle.journal.proofs.Going.{Went}
 use Rattle.journal.proofs.Reading.{agrees_down}
 
 pub recovered_count : (T : State → List ℕ) (m n : Meaning) (r : Answer) → Recovered T m r n → n.count ≡ m.count
-recovered_count T m n (Ok _) (f, c, d) = d.ran.count
-recovered_count T m n (Err e) d = d.1.left.count
+recovered_count T m n r d = grind arith
 
 module _ (T : State → List ℕ) (up : Bool) (es : List Entry) (m n : Meaning) (sn : Sound n) (up' : Bool) where
   -- what the home pages show is what the group lays

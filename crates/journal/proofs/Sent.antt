@@ -31,16 +31,19 @@ module _ {D : Type 0} (meaning : D → Meaning) where
   pub stopped : (p q : List Call) (f : DeviceFault) (d e : D) → Makes meaning p (Err f) d e → Makes meaning (p ++ q) (Err f) d e
   stopped p q f d e (c, (zs, is)) = (c, (zs ++ q, sym (append_assoc (changes c) zs q) ∙ ap (λ (l : List Call). l ++ q) is))
 
+  -- a plan that was carried out leaves the device running
+  made_still : (p : List Call) (d e : D) → Makes meaning p (Ok tt) d e → (meaning d).runs ≡ true → (meaning e).runs ≡ true
+  made_still p d e m t = calls_still meaning m.0 t
+
   -- one part of a plan after another
-  pub and_then : (p q : List Call) (r : Answer) (a b c : D) → Makes meaning p (Ok tt) a b → Makes meaning q r b c → Makes meaning (p ++ q) r a c
-  and_then p q (Ok x) a b c (u, is) (v, also) = let w = chained u v in
+  joined : (p q : List Call) (r : Answer) (a b c : D) → Makes meaning p (Ok tt) a b → Makes meaning q r b c → Makes meaning (p ++ q) r a c
+  joined p q (Ok x) a b c (u, is) (v, also) = let w = chained u v in
       (w.0, w.1 ∙ ap (λ (l : List Call). l ++ changes v) is ∙ ap (λ (l : List Call). p ++ l) also)
-  and_then p q (Err f) a b c (u, is) (v, (zs, also)) = let w = chained u v in
+  joined p q (Err f) a b c (u, is) (v, (zs, also)) = let w = chained u v in
       (w.0, (zs, ap (λ (l : List Call). l ++ zs) (w.1 ∙ ap (λ (l : List Call). l ++ changes v) is) ∙ append_assoc p (changes v) zs ∙ ap (λ (l : List Call). p ++ l) also))
 
-  -- a plan that was carried out leaves the device running
-  pub made_still : (p : List Call) (d e : D) → Makes meaning p (Ok tt) d e → (meaning d).runs ≡ true → (meaning e).runs ≡ true
-  made_still p d e m t = calls_still meaning m.0 t
+  pub and_then : (p q : List Call) (r : Answer) (a b c : D) → (meaning a).runs ≡ true → Makes meaning p (Ok tt) a b → ((meaning b).runs ≡ true → Makes meaning q r b c) → Makes meaning (p ++ q) r a c
+  and_then p q r a b c t u v = joined p q r a b c u (v (made_still p a b u t))
 
   -- reads alone, whatever was answered
   front_nil : (xs : List Call) → Front xs [] → xs ≡ []

@@ -1,7 +1,7 @@
 -- A sync of the journal, from what its steps leave below.
 use Rattle.std.proofs.Common.{◌≡◌, ℕ, suc, ◌+◌, ◌-◌, ◌<◌, Bool, true, false, eqb, List, [], ◌∷◌, length, get_or, Ok, Err, MatchBool, sym, refl, ap, ◌∙◌, inl, inr, ⊎_elim, arith}
 use Rattle.std.proofs.lemmas.Bool.{both_ways, eq-eqb}
-use Rattle.device.specs.Meaning.{State, bytes, spoiled, Meaning, Sound}
+use Rattle.device.specs.Meaning.{State, bytes, Meaning, Sound}
 use Rattle.device.specs.Numbers.{number}
 use Rattle.device.specs.Calls.{Answer, syncs, lost}
 use Rattle.device.proofs.Whens.{when_true}
@@ -93,25 +93,5 @@ module _ (T : State → List ℕ) (up : Bool) (es : List Entry) (m : Meaning) (s
       );
     }
 
-  -- nothing waits: nothing is done
-  pub went_idle : es ≡ [] → Went syncs T up es m (Ok tt) up es m
-  went_idle e = record {
-    agrees = g;
-    means = (
-      record {
-        running = t;
-        ran = record { count = refl; still = t };
-        shown = λ i h. refl;
-        only = λ i x h y. ⊎_elim (λ z. sym z.2 ∙ bodies_ends T [] (λ _. spoiled) (home m) m (g.idle t) z.0 z.1 i h ∙ sym (none i (home m i))) (λ z. z.1) y;
-        waits = ap pages e;
-      },
-      λ i h. sym (none i (home m i)),
-    );
-  }
-    where
-      none : (i : ℕ) (d : State) → held es i d ≡ d
-      none i d = ap (λ (l : List Entry). held l i d) e
-
 pub committed_count : (T : State → List ℕ) (es : List Entry) (base : ℕ → State) (m n : Meaning) (r : Answer) → Committed T es base m r n → n.count ≡ m.count
-committed_count T es base m n (Ok _) d = d.ran.count
-committed_count T es base m n (Err e) d = d.1.left.count
+committed_count T es base m n r d = grind arith

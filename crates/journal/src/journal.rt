@@ -22,6 +22,7 @@ use device::{Device, DeviceFault, GroupDevice, gate};
 #[derive(Drop)]
 pub struct Journal<D> {
     below: D,
+    // No Option of what waits: each read and write would then ask twice, in `gate` and for the entries, whether the journal runs.
     up: bool,
     pending: Pending,
 }

@@ -4,7 +4,6 @@
 mod entries;
 mod header;
 mod journal;
-mod pending;
 mod places;
 mod recovery;
 mod steps;

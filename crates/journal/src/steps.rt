@@ -1,5 +1,5 @@
 // The steps of a sync, on the device below.
-ghost use Rattle.std.specs.Prelude.{◌≡◌, ℕ, true, false, List, [], ◌++◌};
+ghost use Rattle.std.specs.Prelude.{◌≡◌, ℕ, true, List, [], ◌++◌};
 ghost use Rattle.device.specs.Meaning.{State};
 ghost use Rattle.journal.specs.Waiting.{waiting};
 ghost use Rattle.journal.specs.Header.{header};

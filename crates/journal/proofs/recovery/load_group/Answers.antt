@@ -4,7 +4,7 @@ use Rattle.std.proofs.lemmas.Bool.Decides.{nat_tests}
 use Rattle.journal.specs.Header.{targets}
 use Rattle.journal.specs.Sending.{bare}
 use Rattle.journal.specs.Sound.{short}
-use Rattle.journal.proofs.Sent.{and_then, made_still}
+use Rattle.journal.proofs.Sent.{and_then}
 use Rattle.journal.proofs.Looked.{found_from, awake_same}
 use Rattle.journal.proofs.recovery.load_group.Goals as goal
 
@@ -19,7 +19,7 @@ returns-clause-makes g c =
     let meaning = g.D.Device.meaning in
     let a = c.args.below.now in
     let d = c.read_header.new.below in
-    λ h t. and_then meaning [] [] (bare c.load.result) a d c.load.new.below (x.makes h t) (c.load.ensures.makes (x.agrees h) (made_still meaning [] a d (x.makes h t) t))
+    λ h t. and_then meaning [] [] (bare c.load.result) a d c.load.new.below t (x.makes h t) (c.load.ensures.makes (x.agrees h))
 
 pub returns-clause-found : goal.returns-clause-found
 returns-clause-found g c =

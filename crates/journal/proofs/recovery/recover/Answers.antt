@@ -11,7 +11,7 @@ use Rattle.journal.specs.Sending.{step3, step4}
 use Rattle.journal.specs.Over.{reader}
 use Rattle.journal.specs.Order.{Group, NoGroup}
 use Rattle.journal.specs.Recovery.{Awake, FoundGroup, Found}
-use Rattle.journal.proofs.Sent.{and_then, made_still}
+use Rattle.journal.proofs.Sent.{and_then}
 use Rattle.journal.proofs.Recover.{none_above, enough, stands, lay_ready, laid_again, clear_ready, only_cleared}
 use Rattle.journal.proofs.recovery.recover.Goals as goal
 
@@ -60,8 +60,8 @@ returns-in-Some g c =
                 es,
                 subst (λ (T : State → List ℕ). Group T (meaning x).shown es) (ap (λ (k : ℕ). targets (above k)) (sym (does h).means.ran.count))
                     (stands (meaning a) (meaning x) (meaning o) (does h).means (g.D.Device.sound o (q.agrees (does h).agrees)) pos es (found h)),
-                and_then meaning [] (step3 es ++ step4) r x o e (q.makes (does h).agrees (does h).means.ran.still)
-                    (z.makes (q.agrees (does h).agrees) (made_still meaning [] x o (q.makes (does h).agrees (does h).means.ran.still) (does h).means.ran.still)),
+                and_then meaning [] (step3 es ++ step4) r x o e (does h).means.ran.still (q.makes (does h).agrees (does h).means.ran.still)
+                    (z.makes (q.agrees (does h).agrees)),
               )),
         ),
       );
@@ -98,8 +98,8 @@ returns-in-None g c =
           when_false (eqb (above (meaning x).count) 0) _ _ (ne_eqb _ _ pos)
               (inr (inl (
                 subst (λ (T : State → List ℕ). NoGroup T (meaning x).shown) (ap (λ (k : ℕ). targets (above k)) (sym (does h).means.ran.count)) (found h).0,
-                and_then meaning [] step4 r x o e (q.makes (does h).agrees (does h).means.ran.still)
-                    (z.makes (q.agrees (does h).agrees) (made_still meaning [] x o (q.makes (does h).agrees (does h).means.ran.still) (does h).means.ran.still)),
+                and_then meaning [] step4 r x o e (does h).means.ran.still (q.makes (does h).agrees (does h).means.ran.still)
+                    (z.makes (q.agrees (does h).agrees)),
               ))),
         ),
       );

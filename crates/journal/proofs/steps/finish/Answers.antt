@@ -1,7 +1,7 @@
 use Rattle.std.proofs.lemmas.Result.{err_from_is_err_and}
 use Rattle.journal.specs.Waiting.{waiting}
 use Rattle.journal.specs.Sending.{step3, step4}
-use Rattle.journal.proofs.Sent.{stopped, and_then, made_still}
+use Rattle.journal.proofs.Sent.{stopped, and_then}
 use Rattle.journal.proofs.Finish.{lay_lost, clear_ready, laid_and_cleared}
 use Rattle.journal.proofs.steps.finish.Goals as goal
 
@@ -31,7 +31,7 @@ returns g c =
     let e = c.clear.new.below in
     record {
       agrees = λ h. k.agrees (s.agrees h);
-      makes = λ h t. and_then meaning (step3 es) step4 c.clear.result a o e (s.makes h t) (k.makes (s.agrees h) (made_still meaning (step3 es) a o (s.makes h t) t));
+      makes = λ h t. and_then meaning (step3 es) step4 c.clear.result a o e t (s.makes h t) (k.makes (s.agrees h));
       finished = λ h T base lr.
           let x = s.settled h lr.ready in
           laid_and_cleared g.D.Device.agrees meaning sound T es base a lr h x.0 x.1 x.2 o x.3 c.clear.result e

@@ -1,4 +1,4 @@
-use Rattle.std.proofs.Common.{◌≡◌, ℕ, ◌<◌, Some, None, ap, ◌∙◌, subst, arith}
+use Rattle.std.proofs.Common.{rules, ◌≡◌, ℕ, ◌<◌, Some, None, ap, ◌∙◌, subst, arith}
 use Rattle.std.proofs.lemmas.Result.{err_from_is_err_and}
 use Rattle.device.specs.Calls.{reads}
 use Rattle.device.specs.Clauses.{Does}
@@ -12,7 +12,7 @@ pub returns-in_err-gate : goal.returns-in_err-gate
 returns-in_err-gate g c =
     let p = err_from_is_err_and c.from_residual.result c.from_residual.ensures.1 in
     let x = refused_read g.D.Device.agrees g.D.Device.meaning g.D.Device.sound c.args.self.now c.count.result c.args.page c.args.buf.now c.count.ensures c.in_err-gate.field-0.0 c.in_err-gate.ensures in
-    record { does = rw (p.1, p.2) x.0; calls = rw (p.1, p.2) x.1; sends = rw (p.1, p.2) x.2 }
+    record { does = rw (p.1, p.2) x.0; calls = rw (p.1, p.2) x.1; sends = search rules }
 
 pub returns-in-Some : goal.returns-in-Some
 returns-in-Some g c =
@@ -22,7 +22,7 @@ returns-in-Some g c =
     let there : Some c.copy_from_slice.new.self ≡ look_up (waiting s.pending) c.args.page = ap Some c.copy_from_slice.ensures.after ∙ c.in-Some.ensures in
     let x = held_read g.D.Device.agrees g.D.Device.meaning g.D.Device.sound s gate.2 s.pending c.args.page c.args.buf.now w gate.1 c.copy_from_slice.new.self
     (found (waiting s.pending) c.args.page c.copy_from_slice.new.self there) in
-    record { does = x.0; calls = x.1; sends = x.2 }
+    record { does = x.0; calls = x.1; sends = search rules }
 
 pub returns : goal.returns
 returns g c =
@@ -34,4 +34,4 @@ returns g c =
     let x = home_read g.D.Device.agrees g.D.Device.meaning g.D.Device.sound s c.hear.new.self c.read-r.new.self c.read-r.result c.hear.result y.below y.same
     c.args.page c.args.buf.now c.read-r.new.buf gate.2 w gate.1 (not_found (waiting s.pending) c.args.page none)
     y.after (subst (λ (i : ℕ). Does g.D.Device.agrees g.D.Device.meaning (reads i c.args.buf.now c.read-r.new.buf) s.below c.read-r.result c.read-r.new.self) c.home_page.ensures c.read-r.ensures.does) in
-    record { does = x.0; calls = x.1; sends = x.2 }
+    record { does = x.0.0; calls = x.0.1; sends = x.1 }
