@@ -20,7 +20,7 @@ pub use fault::CheckFault;
 pub use format::empty_store_page;
 pub use laws::{first_bucket, images_stand, pages_stand};
 pub use reading::read_page;
-pub use records::{Record, find, next_record};
+pub use records::{Record, Records, find, next_record};
 pub use root::{Condition, Root, read_root, root_page};
 
 #[cfg(test)]

@@ -164,12 +164,13 @@ pub(crate) fn records_placed<K: KeyRule>(bytes: &[u8], depth: u32, prefix: u32) 
     requires deep { depth ≤ 32 }
     ensures { (rs : List Rec) → bytes.now ≡ records rs → Tells result (RecordsPlaced K.KeyRule.rule depth prefix rs) }
 {
+    // each record is sought among those after it
     let mut left = bytes;
     while let Some((record, after)) = records::next_record(left) {
         if tree::prefix(K::hash(record.key), depth) != prefix {
             return false;
         }
-        if let Some(_) = records::find::<K>(after, record.key) {
+        if records::find::<K>(after, record.key).is_some() {
             return false;
         }
         left = after;
