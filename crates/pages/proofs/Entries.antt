@@ -1,5 +1,8 @@
 -- A part of an array, tested entry by entry.
-use Rattle.std.proofs.Common.{◌≡◌, ℕ, ◌+◌, ◌-◌, ◌^◌, ◌<◌, ◌≤◌, Bool, true, false, List, length, take, drop, MatchBool, sym, ap, ◌∙◌, subst, arith, length-drop, length-take-le, take_all, get_or-take, get_or-drop}
+use Rattle.std.proofs.Common.{◌≡◌, ℕ, zero, suc, ⊎_elim, ◌+◌, ◌-◌, ◌^◌, ◌<◌, ◌≤◌, Bool, true, false, List, length, take, drop, MatchBool, sym, ap, ◌∙◌, subst, arith, length-drop, length-take-le, take_all, get_or-take, get_or-drop}
+use Rattle.std.proofs.lemmas.Bool.{cases_eq}
+use Rattle.std.specs.Array.{IsFromFnResultFrom}
+use Rattle.std.specs.Fn.{Called, Mut}
 use Rattle.std.specs.List.{AllWithin, HoldsAt, range_with_len}
 use Rattle.std.proofs.lemmas.List.FromFn.{get_or-range_with_len, length-range_with_len}
 use Rattle.pages.specs.Surveys.{at}
@@ -45,3 +48,14 @@ range_all P false m n e a = λ q.
     let h : a.0 < m = omega (arith, a.1, length-range_with_len 0 m) in
     let z : 0 + a.0 ≡ a.0 = omega arith in
     a.2 0 (subst P (sym (get_or-range_with_len 0 m a.0 0 h ∙ z)) (q a.0 (omega arith)))
+
+-- made by a function of the index
+pub made_by : {F : Type 0} (g : Mut F (ℕ × Unit {0}) ℕ) (f : F) (h : ℕ → ℕ) → ((x y : ℕ) (q : F) → Called g f (x, tt) y q → (q ≡ f) × (y ≡ h x)) → (ys : List ℕ) (i n : ℕ) → IsFromFnResultFrom g f ys i n
+    → (k : ℕ) → i ≤ k → k < i + n → at ys k ≡ h k
+made_by g f h c ys i zero r k a b = absurd (omega arith)
+made_by g f h c ys i (suc n) r k a b =
+    let q = c i r.1 r.0 r.3 in
+    ⊎_elim
+    (λ (e : k ≡ i). subst (λ v. at ys v ≡ h v) (sym e) (r.2.1 0 ∙ q.1))
+    (λ (e : k ≡ i → ⊥). made_by g f h c ys (i + 1) n (subst (λ p. IsFromFnResultFrom g p ys (i + 1) n) q.0 r.4) k (omega arith) (omega arith))
+    (cases_eq k i)

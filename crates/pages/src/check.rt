@@ -2,7 +2,7 @@
 ghost use Rattle.std.specs.Prelude.{◌≡◌, ℕ, ◌+◌, ◌^◌, ◌<◌, ◌≤◌, List, length, take, IfSome, IfOk, MatchOption, MatchResult};
 ghost use Rattle.tree.specs.Maps.{Rec};
 ghost use Rattle.pages.specs.Bytes.{Directory};
-ghost use Rattle.pages.specs.Checks.{RootFits, Copied, DirectoriesRead, Unused, InRange, LaidOut, decision, Decided};
+ghost use Rattle.pages.specs.Checks.{RootFits, DirectoriesRead, Unused, InRange, LaidOut, decision, Decided};
 ghost use Rattle.pages.specs.Gathered.{Paged, AllPaged, AllBuckets};
 ghost use Rattle.pages.specs.Images.{W1, shows, root, Lowest};
 ghost use Rattle.pages.specs.Reads.{Looks, Seen};
@@ -15,8 +15,9 @@ use crate::reading::read_page;
 use crate::root::{Condition, Root};
 use crate::survey::{Bucket, Survey};
 use crate::{bucket, directory, records, root, survey};
-use device::{Device, DeviceFault, GroupDevice, Page};
+use device::{Device, DeviceFault, GroupDevice, PAGE_SIZE};
 use keys::KeyRule;
+use std::array;
 
 /// Whether the numbers of page 0 fit a rule and a count of pages.
 fn root_fits(x: Root, kind: u8, count: usize) -> bool
@@ -47,16 +48,6 @@ fn check_root<D: GroupDevice, K: KeyRule>(device: &mut D) -> Result<Option<Root>
     Ok(Some(found))
 }
 
-/// Copies the entries of directory page j to their places.
-fn copy_entries(page: &Page, j: usize, entries: &mut [u16; 256])
-    requires { j < 4 }
-    ensures { Copied page.now entries.old entries.new j }
-{
-    for k in 0..64usize {
-        entries[64 * j + k] = directory::entry_at(page, k);
-    }
-}
-
 /// Whether the unused entries are 0.
 fn unused_zero(entries: &[u16; 256], depth: u32) -> bool
     requires { depth ≤ 8 }
@@ -78,7 +69,7 @@ fn in_range(entries: &[u16; 256], depth: u32, limit: u16) -> bool
 fn read_directory<D: GroupDevice>(device: &mut D) -> Result<Option<[u16; 256]>, DeviceFault>
     ensures { 5 < (D.Device.meaning device.old).count → Looks D.Device.agrees D.Device.meaning D.GroupDevice.grouped 4 device.old result device.new (λ n f o. MatchOption o (((j : ℕ) → j < 4 → Directory (shows (f (1 + j)))) → ⊥) (λ entries. DirectoriesRead f 4 entries)) }
 {
-    let mut entries = [0u16; 256];
+    let mut pages = [[0u8; PAGE_SIZE]; 4];
     for j in 0..4usize {
         let Some(page) = read_page(device, 1 + j)? else {
             return Ok(None);
@@ -86,9 +77,9 @@ fn read_directory<D: GroupDevice>(device: &mut D) -> Result<Option<[u16; 256]>, 
         if !directory::is_directory(&page) {
             return Ok(None);
         }
-        copy_entries(&page, j, &mut entries);
+        pages[j] = page;
     }
-    Ok(Some(entries))
+    Ok(Some(array::from_fn(|i| { directory::entry_at(&pages[i / 64], i % 64) })))
 }
 
 /// Reads the bucket that entry i names; none where its page is not a bucket by layout whose records may stand in a page.
