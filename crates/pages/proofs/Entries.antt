@@ -1,11 +1,11 @@
 -- A part of an array, tested entry by entry.
-use Rattle.std.proofs.Common.{◌≡◌, ℕ, zero, suc, ⊎_elim, ◌+◌, ◌-◌, ◌^◌, ◌<◌, ◌≤◌, Bool, true, false, List, length, take, drop, MatchBool, sym, ap, ◌∙◌, subst, arith, length-drop, length-take-le, take_all, get_or-take, get_or-drop}
+use Rattle.std.proofs.Common.{◌≡◌, ℕ, zero, suc, ⊎_elim, ◌+◌, ◌-◌, ◌^◌, ◌<◌, ◌≤◌, Bool, true, false, List, length, take, drop, MatchBool, sym, ◌∙◌, subst, arith, length-drop, length-take-le, take_all, get_or-take, get_or-drop}
 use Rattle.std.proofs.lemmas.Bool.{cases_eq}
 use Rattle.std.specs.Array.{IsFromFnResultFrom}
 use Rattle.std.specs.Fn.{Called, Mut}
 use Rattle.std.specs.List.{AllWithin, HoldsAt, range_with_len}
 use Rattle.std.proofs.lemmas.List.FromFn.{get_or-range_with_len, length-range_with_len}
-use Rattle.pages.specs.Surveys.{at}
+use Rattle.pages.specs.Surveys.{at, EntriesPlaced}
 
 -- the first n
 pub first_all : (P : ℕ → Type 0) (r : Bool) (xs ys : List ℕ) (n : ℕ) → ys ≡ take n xs → n ≤ length xs → MatchBool r (AllWithin P ys 0 (length ys)) ((k : ℕ) × (k < length ys) × HoldsAt (λ x. P x → ⊥) ys k)
@@ -19,9 +19,24 @@ first_all P r xs ys n e h m = go r (subst (λ l. MatchBool r (AllWithin P l 0 (l
         let l : a.0 < n = omega (arith, a.1, length-take-le n xs h) in
         a.2 0 (subst P (sym (get_or-take n xs a.0 0 l)) (q a.0 l))
 
--- the first of an array, as the array has them
-pub first_same : (es us : List ℕ) (d w : ℕ) → w ≡ d → us ≡ take (2 ^ d) es → (i : ℕ) → i < 2 ^ w → at us i ≡ at es i
-first_same es us d w e u i h = ap (λ l. at l i) u ∙ get_or-take (2 ^ d) es i 0 (subst (λ v. i < 2 ^ v) e h)
+-- the used entries stand as the entries do
+pub used_placed : (es : List ℕ) (D : ℕ → ℕ) (w : ℕ) → EntriesPlaced (at (take (2 ^ w) es)) D w → EntriesPlaced (at es) D w
+used_placed es D w p i h = let q = p i h in (
+  q.0,
+  λ j l. (
+    (λ e. (q.1 j l).0 (get_or-take (2 ^ w) es j 0 l ∙ e ∙ sym (get_or-take (2 ^ w) es i 0 h))),
+    λ e. sym (get_or-take (2 ^ w) es j 0 l) ∙ (q.1 j l).1 e ∙ get_or-take (2 ^ w) es i 0 h,
+  ),
+)
+
+pub placed_used : (es : List ℕ) (D : ℕ → ℕ) (w : ℕ) → EntriesPlaced (at es) D w → EntriesPlaced (at (take (2 ^ w) es)) D w
+placed_used es D w p i h = let q = p i h in (
+  q.0,
+  λ j l. (
+    (λ e. (q.1 j l).0 (sym (get_or-take (2 ^ w) es j 0 l) ∙ e ∙ get_or-take (2 ^ w) es i 0 h)),
+    λ e. get_or-take (2 ^ w) es j 0 l ∙ (q.1 j l).1 e ∙ sym (get_or-take (2 ^ w) es i 0 h),
+  ),
+)
 
 -- those from n on, of m
 pub last_all : (P : ℕ → Type 0) (r : Bool) (xs ys : List ℕ) (n m : ℕ) → length xs ≡ m → ys ≡ take (m - n) (drop n xs) → n ≤ m
