@@ -1,23 +1,11 @@
 -- A part of an array, tested entry by entry.
-use Rattle.std.proofs.Common.{◌≡◌, ℕ, zero, suc, ⊎_elim, ◌+◌, ◌-◌, ◌^◌, ◌<◌, ◌≤◌, Bool, true, false, List, length, take, drop, MatchBool, sym, ◌∙◌, subst, arith, length-drop, length-take-le, take_all, get_or-take, get_or-drop}
+use Rattle.std.proofs.Common.{◌≡◌, ℕ, zero, suc, ⊎_elim, ◌+◌, ◌-◌, ◌^◌, ◌<◌, ◌≤◌, Bool, true, false, List, length, take, drop, MatchBool, sym, ◌∙◌, subst, arith, length-drop, take_all, get_or-take, get_or-drop}
 use Rattle.std.proofs.lemmas.Bool.{cases_eq}
 use Rattle.std.specs.Array.{IsFromFnResultFrom}
 use Rattle.std.specs.Fn.{Called, Mut}
 use Rattle.std.specs.List.{AllWithin, HoldsAt, range_with_len}
 use Rattle.std.proofs.lemmas.List.FromFn.{get_or-range_with_len, length-range_with_len}
 use Rattle.pages.specs.Surveys.{at, EntriesPlaced}
-
--- the first n
-pub first_all : (P : ℕ → Type 0) (r : Bool) (xs ys : List ℕ) (n : ℕ) → ys ≡ take n xs → n ≤ length xs → MatchBool r (AllWithin P ys 0 (length ys)) ((k : ℕ) × (k < length ys) × HoldsAt (λ x. P x → ⊥) ys k)
-    → MatchBool r ((i : ℕ) → i < n → P (at xs i)) (((i : ℕ) → i < n → P (at xs i)) → ⊥)
-first_all P r xs ys n e h m = go r (subst (λ l. MatchBool r (AllWithin P l 0 (length l)) ((k : ℕ) × (k < length l) × HoldsAt (λ x. P x → ⊥) l k)) e m)
-  where
-    go : (r : Bool) → MatchBool r (AllWithin P (take n xs) 0 (length (take n xs))) ((k : ℕ) × (k < length (take n xs)) × HoldsAt (λ x. P x → ⊥) (take n xs) k)
-        → MatchBool r ((i : ℕ) → i < n → P (at xs i)) (((i : ℕ) → i < n → P (at xs i)) → ⊥)
-    go true a = λ i l. subst P (get_or-take n xs i 0 l) (a i 0 (omega arith) (omega (arith, length-take-le n xs h)))
-    go false a = λ q.
-        let l : a.0 < n = omega (arith, a.1, length-take-le n xs h) in
-        a.2 0 (subst P (sym (get_or-take n xs a.0 0 l)) (q a.0 l))
 
 -- the used entries stand as the entries do
 pub used_placed : (es : List ℕ) (D : ℕ → ℕ) (w : ℕ) → EntriesPlaced (at (take (2 ^ w) es)) D w → EntriesPlaced (at es) D w

@@ -153,8 +153,7 @@ fn read_buckets<D: GroupDevice, K: KeyRule>(
         count: 0,
         placed: false,
     }; 256];
-    let wide = layout.used().len();
-    for i in 0..wide {
+    for i in 0..layout.used().len() {
         let Some(found) = read_named::<D, K>(device, layout, i)? else {
             return Ok(None);
         };

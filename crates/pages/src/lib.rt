@@ -42,6 +42,7 @@ mod tests {
         assert_eq!(rt; page[5], 11);
         let bucket = read_bucket::<TextKeys>(&page).ok_or("no bucket")?;
         let (place, found) = find::<TextKeys>(bucket.records, b"A").ok_or("not found")?;
+        assert_eq!(rt; Records::new(bucket.records).count(), 1);
         assert_eq!(rt; place, 0);
         assert_eq!(rt; found.day, 3650);
         Ok(())

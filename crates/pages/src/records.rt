@@ -12,6 +12,7 @@ use tree::Class;
 /// A record in a page.
 #[derive(Clone, Copy, Debug, PartialEq, Eq)]
 pub struct Record<'a> {
+    // a number: a page may hold one that no class has
     pub class: u8,
     pub day: u32,
     pub key: &'a [u8],

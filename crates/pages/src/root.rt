@@ -10,6 +10,7 @@ use device::Page;
 /// The numbers of page 0: the kind of keys, the directory's depth, how many buckets there may be and are, and how many records.
 #[derive(Clone, Copy, Debug, PartialEq, Eq)]
 pub struct Root {
+    // a number: a page may hold one that no rule has
     pub kind: u8,
     pub depth: u8,
     pub limit: u16,

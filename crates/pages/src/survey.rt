@@ -116,6 +116,7 @@ impl<'a> Survey<'a> {
     fn count_pages(&self) -> u32
         ensures { NumberRight (depth_at self.now.buckets.now) self.now.root.depth result }
     {
+        // from the first entry of each bucket to that of the next, in steps that differ
         let mut i: usize = 0;
         let mut n: u32 = 0;
         while i < self.buckets.len() {
@@ -162,7 +163,7 @@ pub(crate) fn records_placed<K: KeyRule>(bytes: &[u8], depth: u32, prefix: u32) 
     requires deep { depth ≤ 32 }
     ensures { (rs : List Rec) → bytes.now ≡ records rs → Tells result (RecordsPlaced K.KeyRule.rule depth prefix rs) }
 {
-    // each record is sought among those after it
+    // by the bytes, since each record is sought among those after it
     let mut left = bytes;
     while let Some((record, after)) = records::next_record(left) {
         if tree::prefix(K::hash(record.key), depth) != prefix {
