@@ -1,5 +1,5 @@
 -- A part of an array, tested entry by entry.
-use Rattle.std.proofs.Common.{◌≡◌, ℕ, zero, suc, ⊎_elim, ◌+◌, ◌-◌, ◌^◌, ◌<◌, ◌≤◌, Bool, true, false, List, length, take, drop, MatchBool, sym, ◌∙◌, subst, arith, length-drop, take_all, get_or-take, get_or-drop}
+use Rattle.std.proofs.Common.{◌≡◌, ℕ, zero, suc, ⊎_elim, ◌+◌, ◌-◌, ◌^◌, ◌<◌, ◌≤◌, Bool, true, false, List, length, take, drop, MatchBool, sym, ◌∙◌, subst, arith, length-drop, get_or-take, get_or-drop}
 use Rattle.std.proofs.lemmas.Bool.{cases_eq}
 use Rattle.std.specs.Array.{IsFromFnResultFrom}
 use Rattle.std.specs.Fn.{Called, Mut}
@@ -27,11 +27,11 @@ placed_used es D w p i h = let q = p i h in (
 )
 
 -- those from n on, of m
-pub last_all : (P : ℕ → Type 0) (r : Bool) (xs ys : List ℕ) (n m : ℕ) → length xs ≡ m → ys ≡ take (m - n) (drop n xs) → n ≤ m
+pub last_all : (P : ℕ → Type 0) (r : Bool) (xs ys : List ℕ) (n m : ℕ) → length xs ≡ m → ys ≡ drop n xs → n ≤ m
     → MatchBool r (AllWithin P ys 0 (length ys)) ((k : ℕ) × (k < length ys) × HoldsAt (λ x. P x → ⊥) ys k)
     → MatchBool r ((i : ℕ) → n ≤ i → i < m → P (at xs i)) (((i : ℕ) → n ≤ i → i < m → P (at xs i)) → ⊥)
 last_all P r xs ys n m z e h t =
-    go r (subst (λ l. MatchBool r (AllWithin P l 0 (length l)) ((k : ℕ) × (k < length l) × HoldsAt (λ x. P x → ⊥) l k)) (e ∙ take_all (m - n) (drop n xs) (omega (arith, length-drop n xs))) t)
+    go r (subst (λ l. MatchBool r (AllWithin P l 0 (length l)) ((k : ℕ) × (k < length l) × HoldsAt (λ x. P x → ⊥) l k)) e t)
   where
     go : (r : Bool) → MatchBool r (AllWithin P (drop n xs) 0 (length (drop n xs))) ((k : ℕ) × (k < length (drop n xs)) × HoldsAt (λ x. P x → ⊥) (drop n xs) k)
         → MatchBool r ((i : ℕ) → n ≤ i → i < m → P (at xs i)) (((i : ℕ) → n ≤ i → i < m → P (at xs i)) → ⊥)

@@ -1,5 +1,5 @@
 //! Whether the pages that a device shows are a well-formed image.
-ghost use Rattle.std.specs.Prelude.{◌≡◌, ℕ, ◌+◌, ◌^◌, ◌<◌, ◌≤◌, List, length, take, IfSome, IfOk, MatchOption, MatchResult};
+ghost use Rattle.std.specs.Prelude.{◌≡◌, ℕ, ◌+◌, ◌^◌, ◌<◌, ◌≤◌, List, length, take, drop, IfSome, IfOk, MatchOption, MatchResult};
 ghost use Rattle.tree.specs.Maps.{Rec};
 ghost use Rattle.pages.specs.Bytes.{Directory};
 ghost use Rattle.pages.specs.Checks.{RootFits, DirectoriesRead, Unused, InRange, LaidOut, decision, Decided};
@@ -66,13 +66,18 @@ impl Layout {
         &self.entries[..1usize << self.root.depth]
     }
 
+    /// The others.
+    fn unused(&self) -> &[u16]
+        ensures { result.now ≡ drop (2 ^ self.now.root.depth) self.now.entries }
+    {
+        &self.entries[1usize << self.root.depth..]
+    }
+
     /// Whether the unused entries are 0.
     fn unused_zero(&self) -> bool
         ensures { Tells result (Unused (at self.now.entries) self.now.root.depth) }
     {
-        self.entries[1usize << self.root.depth..]
-            .iter()
-            .all(|entry| *entry == 0)
+        self.unused().iter().all(|entry| *entry == 0)
     }
 
     /// Whether the used entries name pages that may be buckets.
