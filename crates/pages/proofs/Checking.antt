@@ -1,13 +1,12 @@
 -- The parts of a check of an image.
 use Rattle.keys.specs.Rule.{Rule}
-use Rattle.std.proofs.Common.{◌≡◌, ℕ, ◌+◌, ◌*◌, ◌/◌, ◌%◌, ◌<◌, ◌≤◌, List, [], length, get_or, set, sym, ap, ◌∙◌, subst, ⊎_elim, arith, below_more}
-use Rattle.std.proofs.lemmas.List.{get_or-set_same, get_or-set_other, length-set}
-use Rattle.std.proofs.lemmas.Bool.{cases_lt}
+use Rattle.std.proofs.Common.{◌≡◌, ℕ, ◌+◌, ◌*◌, ◌/◌, ◌%◌, ◌<◌, ◌≤◌, List, [], length, get_or, set, sym, ap, ◌∙◌, subst, arith, below_more}
+use Rattle.std.proofs.lemmas.List.{get_or-set_same, get_or-set_other}
 use Rattle.device.specs.Meaning.{State, bytes, spoiled}
 use Rattle.pages.specs.declared.root.Root.{Root}
 use Rattle.layout.specs.Envelope.{envelope}
 use Rattle.pages.specs.Bytes.{root_body, entry_at, Directory}
-use Rattle.pages.specs.Checks.{RootFits, Copied, DirectoriesRead}
+use Rattle.pages.specs.Checks.{RootFits, DirectoriesRead}
 use Rattle.pages.specs.Images.{shows, root_in, root, W1}
 use Rattle.pages.specs.Surveys.{at}
 
@@ -45,28 +44,19 @@ one_unlike K n e p h un w = un (root e) (ap shows (sym h) ∙ w.layout)
 
 -- ---- the directory
 
-pub copy_more : (page entries : List ℕ) (before : List ℕ) (j k v : ℕ) → j < 4 → k < 64 → v ≡ entry_at page k
-    → ((i : ℕ) → i < k → at entries (64 * j + i) ≡ entry_at page i) × ((i : ℕ) → i < 64 * j → at entries i ≡ at before i) × (length entries ≡ 256)
-    → ((i : ℕ) → i < k + 1 → at (set entries (64 * j + k) v) (64 * j + i) ≡ entry_at page i) × ((i : ℕ) → i < 64 * j → at (set entries (64 * j + k) v) i ≡ at before i) × (length (set entries (64 * j + k) v) ≡ 256)
-copy_more page entries before j k v hj hk e inv = (
-  below_more (λ i. at (set entries (64 * j + k) v) (64 * j + i) ≡ entry_at page i) k
-      (λ i h. get_or-set_other entries (64 * j + k) (64 * j + i) v 0 (λ z. omega arith) ∙ inv.0 i h)
-      (get_or-set_same entries (64 * j + k) v 0 (omega (arith, inv.2)) ∙ e),
-  (λ i h. get_or-set_other entries (64 * j + k) i v 0 (λ z. omega arith) ∙ inv.1 i h),
-  length-set entries (64 * j + k) v ∙ inv.2,
-)
+-- the first j pages of the directory, as they were read
+abbrev pub PagesRead : (ℕ → State) → ℕ → List (List ℕ) → Type 0
+PagesRead e j pages = (m : ℕ) → m < j → Directory (shows (e (1 + m))) × (get_or pages m [] ≡ shows (e (1 + m)))
 
-pub directories_more : (e : ℕ → State) (j : ℕ) (p before after : List ℕ) → e (1 + j) ≡ bytes p → Directory p → Copied p before after j → DirectoriesRead e j before → DirectoriesRead e (j + 1) after
-directories_more e j p before after h d c inv = (
-  below_more (λ m. Directory (shows (e (1 + m)))) j inv.0 (subst (λ s. Directory (shows s)) (sym h) d),
-  λ i l. ⊎_elim
-      (λ (lt : i < 64 * j). c.low i lt ∙ inv.1 i lt)
-      (λ (ge : 64 * j ≤ i).
-      let q : i / 64 ≡ j = omega arith in
-      let r : i ≡ 64 * j + i % 64 = omega arith in
-      ap (at after) r ∙ c.here (i % 64) (omega arith) ∙ ap (λ s. entry_at (shows s) (i % 64)) (sym h) ∙ ap (λ k. entry_at (shows (e (1 + k))) (i % 64)) (sym q))
-      (cases_lt i (64 * j)),
-)
+pub directories_more : (e : ℕ → State) (j : ℕ) (p : List ℕ) (pages : List (List ℕ)) → j < length pages → e (1 + j) ≡ bytes p → Directory p → PagesRead e j pages → PagesRead e (j + 1) (set pages j p)
+directories_more e j p pages l h d inv =
+    below_more (λ m. Directory (shows (e (1 + m))) × (get_or (set pages j p) m [] ≡ shows (e (1 + m)))) j
+    (λ m lt. ((inv m lt).0, get_or-set_other pages j m p [] (λ z. omega arith) ∙ (inv m lt).1))
+    (subst (λ s. Directory (shows s)) (sym h) d, get_or-set_same pages j p [] l ∙ ap shows (sym h))
+
+-- and their entries
+pub entries_read : (e : ℕ → State) (pages : List (List ℕ)) (entries : List ℕ) → PagesRead e 4 pages → ((i : ℕ) → i < 256 → at entries i ≡ entry_at (get_or pages (i / 64) []) (i % 64)) → DirectoriesRead e 4 entries
+entries_read e pages entries r s = ((λ m h. (r m h).0), λ i h. s i (omega arith) ∙ ap (λ p. entry_at p (i % 64)) (r (i / 64) (omega arith)).1)
 
 pub directories_not : (e : ℕ → State) (j : ℕ) (p : List ℕ) → j < 4 → e (1 + j) ≡ bytes p → (Directory p → ⊥) → ((m : ℕ) → m < 4 → Directory (shows (e (1 + m)))) → ⊥
 directories_not e j p l h un d = un (subst (λ s. Directory (shows s)) h (d j l))

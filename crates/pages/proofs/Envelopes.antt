@@ -119,30 +119,18 @@ empty_enveloped p e = record { fits = omega arith; is = e }
 pub root_made : (p : List ℕ) (x : Root) (m u r : List ℕ) → x.limit < 65536 → x.used < 65536 → x.records < 4294967296
     → m ≡ (x.limit / 256 % 256) ∷ (x.limit % 256) ∷ [] → u ≡ (x.used / 256 % 256) ∷ (x.used % 256) ∷ []
     → r ≡ (x.records / 16777216 % 256) ∷ (x.records / 65536 % 256) ∷ (x.records / 256 % 256) ∷ (x.records % 256) ∷ []
-    → Enveloped p (x.kind ∷ x.depth ∷ get_or m 0 0 ∷ get_or m 1 0 ∷ get_or u 0 0 ∷ get_or u 1 0 ∷ get_or r 0 0 ∷ get_or r 1 0 ∷ get_or r 2 0 ∷ get_or r 3 0 ∷ [])
+    → p ≡ envelope (x.kind ∷ x.depth ∷ get_or m 0 0 ∷ get_or m 1 0 ∷ get_or u 0 0 ∷ get_or u 1 0 ∷ get_or r 0 0 ∷ get_or r 1 0 ∷ get_or r 2 0 ∷ get_or r 3 0 ∷ [])
     → p ≡ envelope (root_body x)
 unfolding root_body
 root_made p x m u r lm lu lr em eu er v =
     let qm : x.limit / 256 % 256 ≡ x.limit / 256 = omega arith in
     let qu : x.used / 256 % 256 ≡ x.used / 256 = omega arith in
     let qr : x.records / 16777216 % 256 ≡ x.records / 16777216 = omega arith in
-    v.is
+    v
     ∙ ap envelope (λ i. x.kind ∷ x.depth ∷ get_or (em i) 0 0 ∷ get_or (em i) 1 0 ∷ get_or (eu i) 0 0 ∷ get_or (eu i) 1 0 ∷ get_or (er i) 0 0 ∷ get_or (er i) 1 0 ∷ get_or (er i) 2 0 ∷ get_or (er i) 3 0 ∷ [])
     ∙ ap envelope (λ i. x.kind ∷ x.depth ∷ qm i ∷ (x.limit % 256) ∷ qu i ∷ (x.used % 256) ∷ qr i ∷ (x.records / 65536 % 256) ∷ (x.records / 256 % 256) ∷ (x.records % 256) ∷ [])
 
 -- ---- buckets
-
-one : (b : List ℕ) → 1 ≤ length b → b ≡ get_or b 0 0 ∷ drop 1 b
-one [] h = absurd (omega (arith, h))
-one (a ∷ q) h = refl
-
-pub bucket_some : (p body bs : List ℕ) (rs : List Rec) → Enveloped p body → 1 ≤ length body → bs ≡ take (length body - 1) (drop 1 body) → bs ≡ records rs → BucketIs p (get_or body 0 0) rs
-bucket_some p body bs rs v l e r =
-    let t : records rs ≡ drop 1 body = sym r ∙ e ∙ take_all (length body - 1) (drop 1 body) (omega (arith, length-drop 1 body)) in
-    record {
-      fits = omega (arith, ap length t, length-drop 1 body, v.fits);
-      is = v.is ∙ ap envelope (one body l ∙ ap (λ (q : List ℕ). get_or body 0 0 ∷ q) (sym t));
-    }
 
 pub is_bucket_body : (p body : List ℕ) (d : ℕ) (rs : List Rec) → Enveloped p body → BucketIs p d rs → body ≡ bucket_body d rs
 is_bucket_body p body d rs v b = envelope_inj body (bucket_body d rs) (sym v.is ∙ b.is)

@@ -63,5 +63,5 @@ module _ (R : Rule) (P : ℕ → List ℕ) (w : ℕ) where
         told false m s = absurd (m s)
 
   -- of the first buckets of an array
-  pub paged_first : (bs : List Bucket) (m n : ℕ) → m ≡ n → AllPaged R P w bs n → AllPaged R P w (take m bs) n
-  paged_first bs m n e a i h = subst (Paged R (P i) w i) (sym (get_or-take m bs i no_bucket (omega arith))) (a i h)
+  pub paged_first : (bs : List Bucket) (n : ℕ) → AllPaged R P w bs n → AllPaged R P w (take n bs) n
+  paged_first bs n a i h = subst (Paged R (P i) w i) (sym (get_or-take n bs i no_bucket h)) (a i h)

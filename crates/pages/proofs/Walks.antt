@@ -1,9 +1,14 @@
 -- A walk over the records of a bucket.
-use Rattle.std.proofs.Common.{◌≡◌, ℕ, ◌+◌, ◌-◌, Bool, true, false, List, [], ◌∷◌, ◌++◌, length, sym, refl, ap, ◌∙◌, subst, arith, length-append}
-use Rattle.std.specs.List.{AllByRecursion}
+use Rattle.std.proofs.Common.{◌≡◌, ℕ, ◌+◌, ◌-◌, Bool, true, false, List, [], ◌∷◌, ◌++◌, length, Some, None, Option, Bor, MatchBool, MatchOption, eqb, sym, refl, ap, ◌∙◌, subst, arith, length-append}
+use Rattle.std.specs.List.{AllByRecursion, FoldsTo}
+use Rattle.std.specs.Iterator.{AlwaysYields, Yields, YieldsThen}
+use Rattle.std.specs.Fn.{Called, CalledAt, Mut}
+use Rattle.std.proofs.lemmas.Bool.{both_ways, eqb-true, eqb-false}
 use Rattle.std.proofs.lemmas.List.{append_assoc, nil_from_length}
 use Rattle.tree.specs.Maps.{Rec, size}
-use Rattle.pages.specs.Records.{Fine, record_bytes, records, FoundAt}
+use Rattle.pages.specs.Records.{Fine, viewed, record_bytes, records, Walked, FoundAt}
+use Rattle.pages.specs.declared.records.Record.{Record}
+use Rattle.pages.specs.declared.records.Records.{Records}
 use Rattle.pages.proofs.Codec.{record_inj, record_length, records_append}
 
 -- bytes that begin with a record, and are records, are that record and others
@@ -46,22 +51,6 @@ module _ (valid : List ℕ → Bool) where
       let z : records g.0 ≡ [] = ap records (no_more left g.0 un g.1) in
       long (ap length (g.1 ∙ z))
 
--- ---- counted
-
-abbrev pub Counted : List ℕ → List ℕ → ℕ → Type 0
-Counted bs left n = (rs : List Rec) → bs ≡ records rs → (more : List Rec) × (left ≡ records more) × (n + length more ≡ length rs)
-
-pub counted_more : (bs left after : List ℕ) (x : Rec) (n : ℕ) → left ≡ record_bytes x ++ after → Counted bs left n → Counted bs after (n + 1)
-counted_more bs left after x n e c = λ rs r.
-    let k = c rs r in
-    let o = one_more left after x k.0 e k.1 in
-    (o.0, o.2, omega (arith, k.2, ap length o.1))
-
-pub counted_all : (bs left : List ℕ) (n : ℕ) → ((x : Rec) (rest : List ℕ) → left ≡ record_bytes x ++ rest → ⊥) → Counted bs left n → (rs : List Rec) → bs ≡ records rs → n ≡ length rs
-counted_all bs left n un c rs r =
-    let k = c rs r in
-    omega (arith, k.2, ap length (no_more left k.0 un k.1))
-
 -- ---- searched
 
 module _ (same : List ℕ → List ℕ → Bool) (key : List ℕ) where
@@ -103,3 +92,92 @@ module _ (same : List ℕ → List ℕ → Bool) (key : List ℕ) where
         hit = t;
         first = k.4;
       }
+
+-- ---- an iterator over records
+
+abbrev pub Item : Type 0
+Item = ℕ × Record
+
+abbrev pub took : Records → Option Item → Records → Type 0
+took s r t = Walked s.bytes.now s.left.now r t.bytes.now t.left.now
+
+-- it yields the records that the bytes are
+pub walks : (rs : List Rec) (s : Records) → s.left.now ≡ records rs → AlwaysYields took (λ p. viewed p.1) s rs
+walks [] s e = λ x j k. absurd (omega (arith, ap length (sym k.1.1 ∙ e), length-append (record_bytes (viewed x.1)) j.left.now, record_length (viewed x.1)))
+walks (r ∷ rs) s e = (
+  (λ j k. k.1.0 r (records rs) e),
+  λ x j k. let p = record_inj (viewed x.1) r j.left.now (records rs) (sym k.1.1 ∙ e) in (p.0, walks rs j p.1),
+)
+
+-- what is left is good if and only if all is, and begins with no record
+abbrev pub Left : (List ℕ → Bool) → Records → Records → Type 0
+Left valid s u = (Good valid u.left.now → Good valid s.left.now) × (Good valid s.left.now → Good valid u.left.now) × ((x : Rec) (rest : List ℕ) → u.left.now ≡ record_bytes x ++ rest → ⊥)
+
+-- and nothing is left
+pub tested_whole : (valid : List ℕ → Bool) (s u : Records) (b : Bool) → Left valid s u → b ≡ eqb (length u.left.now) 0 → MatchBool b (Good valid s.left.now) ((rs : List Rec) → s.left.now ≡ records rs → AllByRecursion (Fine valid) rs → ⊥)
+tested_whole valid s u true l e = l.0 (good_nil valid u.left.now (eqb-true (length u.left.now) 0 (sym e)))
+tested_whole valid s u false l e = λ rs q a. good_none valid u.left.now (eqb-false (length u.left.now) 0 (sym e)) l.2 (l.1 (rs, q, a))
+
+-- all of them tested
+module _ (valid : List ℕ → Bool) {F : Type 0} (g : Mut F (Item × Unit {0}) Bool) (f : F) (yes : (x : Item) (q : F) → Called g f (x, tt) true q → (q ≡ f) × Fine valid (viewed x.1))
+    (no : (x : Item) (q : F) → Called g f (x, tt) false q → Fine valid (viewed x.1) → ⊥) where
+  abbrev Fold : F → List Item → F → Type 0
+  Fold = FoldsTo (λ p x q. Called g p (x, tt) true q)
+
+  abbrev Told : Option Item → Bool → F → Type 0
+  Told o r j = MatchOption o (r ≡ true) (λ x. (r ≡ false) × ((h : F) × Called g j (x, tt) false h))
+
+  passed : (xs : List Item) (s t : Records) (j : F) → Yields took s xs t → Fold f xs j → (j ≡ f) × (Good valid t.left.now → Good valid s.left.now) × (Good valid s.left.now → Good valid t.left.now)
+  passed [] s t j y c = (sym c, (λ a. subst (λ (v : Records). Good valid v.left.now) (sym y) a), λ a. subst (λ (v : Records). Good valid v.left.now) y a)
+  passed (x ∷ xs) s t j y c =
+      let q = yes x c.0 c.1 in
+      let r = passed xs y.0 t j y.2 (subst (λ p. Fold p xs j) q.0 c.2) in
+      (r.0, (λ a. good_more valid s.left.now y.0.left.now (viewed x.1) y.1.1.1 q.1 (r.1 a)), λ a. r.2 (good_less valid s.left.now y.0.left.now (viewed x.1) y.1.1.1 a).1)
+
+  pub tested_all : (s u : Records) (r : Bool) → (xs : List Item) × (o : Option Item) × (j : F) × YieldsThen took s xs o u × Fold f xs j × Told o r j → r ≡ true → Left valid s u
+  tested_all s u r t e = go t.1 t.3 t.5
+    where
+      go : (o : Option Item) → YieldsThen took s t.0 o u → Told o r t.2 → Left valid s u
+      go None y m =
+          let p = passed t.0 s y.0 t.2 y.1 t.4 in
+          let k = y.2.1 in
+          ((λ a. p.1 (subst (Good valid) k.1 a)), (λ a. subst (Good valid) (sym k.1) (p.2 a)), λ x rest q. k.0 x rest (sym k.1 ∙ q))
+      go (Some x) y m = absurd (both_ways r m.0 e)
+
+  pub tested_not : (s u : Records) (r : Bool) → (xs : List Item) × (o : Option Item) × (j : F) × YieldsThen took s xs o u × Fold f xs j × Told o r j → r ≡ false → Good valid s.left.now → ⊥
+  tested_not s u r t e a = go t.1 t.3 t.5
+    where
+      go : (o : Option Item) → YieldsThen took s t.0 o u → Told o r t.2 → ⊥
+      go None y m = both_ways r e m
+      go (Some x) y m =
+          let p = passed t.0 s y.0 t.2 y.1 t.4 in
+          no x m.1.0 (subst (λ j. Called g j (x, tt) false m.1.0) p.0 m.1.1) (good_less valid y.0.left.now u.left.now (viewed x.1) y.2.1.1 (p.2 a)).0
+
+-- the first with a key
+module _ (same : List ℕ → List ℕ → Bool) (key : List ℕ) {F : Type 0} (g : Mut F (Bor Item × Unit {0}) Bool) (f : F) (yes : (x : Item) (q : F) → CalledAt g f x true q → same key (viewed x.1).key ≡ true)
+    (no : (x : Item) (q : F) → CalledAt g f x false q → (q ≡ f) × (same key (viewed x.1).key ≡ false)) where
+  abbrev Skips : F → List Item → F → Type 0
+  Skips = FoldsTo (λ p x q. CalledAt g p x false q)
+
+  skipped : (xs : List Item) (s t : Records) (j : F) → Yields took s xs t → Skips f xs j → Passed same key s.bytes.now s.left.now → (j ≡ f) × (t.bytes.now ≡ s.bytes.now) × Passed same key s.bytes.now t.left.now
+  skipped [] s t j y c p = (sym c, ap (λ (v : Records). v.bytes.now) (sym y), subst (λ (v : Records). Passed same key s.bytes.now v.left.now) y p)
+  skipped (x ∷ xs) s t j y c p =
+      let q = no x c.0 c.1 in
+      let m : Passed same key y.0.bytes.now y.0.left.now =
+      subst (λ b. Passed same key b y.0.left.now) (sym y.1.0) (passed_more same key s.bytes.now s.left.now y.0.left.now (viewed x.1) y.1.1.1 q.1 p) in
+      let r = skipped xs y.0 t j y.2 (subst (λ p. Skips p xs j) q.0 c.2) m in
+      (r.0, r.1 ∙ y.1.0, subst (λ b. Passed same key b t.left.now) y.1.0 r.2)
+
+  pub found_first : (s u : Records) (r : Option Item) → (xs : List Item) × (j : F) × YieldsThen took s xs r u × Skips f xs j × MatchOption r (Unit {0}) (λ x. (h : F) × CalledAt g j x true h) → s.left.now ≡ s.bytes.now
+      → (rs : List Rec) → s.bytes.now ≡ records rs → MatchOption r (AllByRecursion (λ (x : Rec). same key x.key ≡ false) rs) (λ p. FoundAt same key rs p.0 (viewed p.1))
+  found_first s u r t l rs e = go r t.2 t.4
+    where
+      start : Passed same key s.bytes.now s.left.now
+      start = subst (Passed same key s.bytes.now) (sym l) (λ ss w. ([], ss, refl, w, tt))
+
+      go : (r : Option Item) → YieldsThen took s t.0 r u → MatchOption r (Unit {0}) (λ x. (h : F) × CalledAt g t.1 x true h)
+          → MatchOption r (AllByRecursion (λ (x : Rec). same key x.key ≡ false) rs) (λ p. FoundAt same key rs p.0 (viewed p.1))
+      go None y m = passed_all same key s.bytes.now y.0.left.now y.2.1.0 (skipped t.0 s y.0 t.1 y.1 t.3 start).2 rs e
+      go (Some p) y m =
+          let k = skipped t.0 s y.0 t.1 y.1 t.3 start in
+          passed_hit same key s.bytes.now y.0.left.now u.left.now (viewed p.1) p.0 (omega (arith, y.2.1.0, ap length k.1)) y.2.1.1 (yes p m.0 (subst (λ j. CalledAt g j p true m.0) k.0 m.1)) k.2 rs e

@@ -1,5 +1,5 @@
 -- A check of an image, put together.
-use Rattle.std.proofs.Common.{◌≡◌, ℕ, ◌+◌, ◌*◌, ◌^◌, ◌<◌, ◌≤◌, ◌⊎◌, List, [], length, sym, ap, ◌∙◌, subst, inl, inr, arith, pow_mono}
+use Rattle.std.proofs.Common.{◌≡◌, ℕ, ◌+◌, ◌*◌, ◌^◌, ◌<◌, ◌≤◌, ◌⊎◌, List, [], length, take, sym, ap, ◌∙◌, subst, inl, inr, arith, pow_mono}
 use Rattle.std.proofs.lemmas.Bool.{cases_lt}
 use Rattle.device.specs.Meaning.{State}
 use Rattle.tree.specs.Prefix.{pre}
@@ -15,7 +15,7 @@ use Rattle.pages.specs.Checks.{Unused, InRange, LaidOut}
 use Rattle.pages.specs.Surveys.{depth_at, bytes_at, count_at, AllPlaced, EntriesPlaced, RecordsPlaced, NumberRight, TreeTested, StandsBehind}
 use Rattle.pages.specs.Gathered.{AllPaged, Gathered, AllStand, AllBuckets}
 use Rattle.pages.specs.declared.survey.Bucket.{Bucket}
-use Rattle.pages.proofs.Gathering.{paged_gathered, placed_stand, stand_placed}
+use Rattle.pages.proofs.Gathering.{paged_first, paged_gathered, placed_stand, stand_placed}
 use Rattle.pages.proofs.Deciding.{Surveyed, five_from, five_entries, six_from, six_to}
 
 -- ---- the lowest broken condition
@@ -182,24 +182,30 @@ module _ (K : Rule) (n : ℕ) (e : ℕ → State) (x : Root) (w : ℕ) (ew : w �
 
 -- ---- the last three conditions, where the first three hold
 
-module _ (K : Rule) (n : ℕ) (e : ℕ → State) (x : Root) (w : ℕ) (ew : w ≡ x.depth) (E : ℕ → ℕ) (l : LaidOut K n e x E) (U : ℕ → ℕ) (same : (i : ℕ) → i < 2 ^ w → U i ≡ E i) where
+module _ (K : Rule) (n : ℕ) (e : ℕ → State) (x : Root) (w : ℕ) (ew : w ≡ x.depth) (E : ℕ → ℕ) (l : LaidOut K n e x E) where
   abbrev P : ℕ → List ℕ
-  P i = shows (e (U i))
+  P i = shows (e (E i))
 
-  used : (i : ℕ) → i < 2 ^ w → U i ≡ entry e i
-  used i h = same i h ∙ l.entries i (within K n e x w ew l.first l.rooted i (of_w K n e x w ew l.first l.rooted i h))
+  used : (i : ℕ) → i < 2 ^ w → E i ≡ entry e i
+  used i h = l.entries i (within K n e x w ew l.first l.rooted i (of_w K n e x w ew l.first l.rooted i h))
 
   -- each page named is below the count
-  pub named_below : (i : ℕ) → i < 2 ^ w → U i < n
+  pub named_below : (i : ℕ) → i < 2 ^ w → E i < n
   named_below i h =
       let q = l.third i (of_w K n e x w ew l.first l.rooted i h) in
       omega (arith, q.1, l.first.room, used i h)
 
   pub broken_4 : (AllBuckets K P (2 ^ w) → ⊥) → Lowest K n e BucketPages
-  broken_4 un = lowest_4 K n e l.first l.second l.third (fourth_not K n e x w ew l.first l.rooted U used un)
+  broken_4 un = lowest_4 K n e l.first l.second l.third (fourth_not K n e x w ew l.first l.rooted E used un)
 
   -- the buckets that were gathered
-  module _ (bs : List Bucket) (a : AllPaged K P w bs (2 ^ w)) where
+  module _ (all : List Bucket) (b : AllPaged K P w all (2 ^ w)) where
+    abbrev bs : List Bucket
+    bs = take (2 ^ w) all
+
+    a : AllPaged K P w bs (2 ^ w)
+    a = paged_first K P w all (2 ^ w) b
+
     abbrev D : ℕ → ℕ
     D = depth_at bs
 
@@ -213,20 +219,20 @@ module _ (K : Rule) (n : ℕ) (e : ℕ → State) (x : Root) (w : ℕ) (ew : w �
     g = paged_gathered K P w bs (2 ^ w) a
 
     fourth : W4 K e
-    fourth = fourth_from K n e x w ew l.first l.rooted U used D S C g
+    fourth = fourth_from K n e x w ew l.first l.rooted E used D S C g
 
     pub broken_5_records : (AllPlaced bs w → ⊥) → Lowest K n e Placement
-    broken_5_records un = lowest_5 K n e l.first l.second l.third fourth (fifth_not_stand K n e x w ew l.first l.rooted U used D S C g (λ q. un (stand_placed K P w bs (2 ^ w) a q)))
+    broken_5_records un = lowest_5 K n e l.first l.second l.third fourth (fifth_not_stand K n e x w ew l.first l.rooted E used D S C g (λ q. un (stand_placed K P w bs (2 ^ w) a q)))
 
-    pub broken_5_entries : (EntriesPlaced U D w → ⊥) → Lowest K n e Placement
-    broken_5_entries un = lowest_5 K n e l.first l.second l.third fourth (fifth_not_entries K n e x w ew l.first l.rooted U used D S C g un)
+    pub broken_5_entries : (EntriesPlaced E D w → ⊥) → Lowest K n e Placement
+    broken_5_entries un = lowest_5 K n e l.first l.second l.third fourth (fifth_not_entries K n e x w ew l.first l.rooted E used D S C g un)
 
-    module _ (pl : AllPlaced bs w) (en : EntriesPlaced U D w) (r : ℕ) (num : NumberRight D x.depth r) where
+    module _ (pl : AllPlaced bs w) (en : EntriesPlaced E D w) (r : ℕ) (num : NumberRight D x.depth r) where
       fifth : W5 K e
-      fifth = fifth_from K n e x w ew l.first l.rooted U used D S C g (placed_stand K P w bs (2 ^ w) a pl) en
+      fifth = fifth_from K n e x w ew l.first l.rooted E used D S C g (placed_stand K P w bs (2 ^ w) a pl) en
 
       pub broken_6 : (TreeTested D S C x r → ⊥) → Lowest K n e Tree
-      broken_6 un = lowest_6 K n e l.first l.second l.third fourth fifth (sixth_not K n e x w ew l.first l.rooted U used D S C g fifth r num un)
+      broken_6 un = lowest_6 K n e l.first l.second l.third fourth fifth (sixth_not K n e x w ew l.first l.rooted E used D S C g fifth r num un)
 
       pub all_six : TreeTested D S C x r → AllMet K n e × (root e ≡ x)
       all_six t = (
@@ -236,7 +242,7 @@ module _ (K : Rule) (n : ℕ) (e : ℕ → State) (x : Root) (w : ℕ) (ew : w �
           third = l.third;
           fourth = fourth;
           fifth = fifth;
-          sixth = sixth_from K n e x w ew l.first l.rooted U used D S C g fifth r num t;
+          sixth = sixth_from K n e x w ew l.first l.rooted E used D S C g fifth r num t;
         },
         l.rooted,
       )

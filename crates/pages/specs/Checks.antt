@@ -7,18 +7,13 @@ use Rattle.pages.specs.declared.root.Root.{Root}
 use Rattle.pages.specs.declared.root.Condition.{Condition}
 use Rattle.pages.specs.declared.fault.CheckFault.{CheckFault}
 use Rattle.pages.specs.declared.fault.CheckFault.TheVariants.{Broken, Device}
-use Rattle.pages.specs.Bytes.{entry_at, Directory}
+use Rattle.pages.specs.Bytes.{Directory}
 use Rattle.pages.specs.Images.{shows, root, entry, W1, W2, W3, AllMet, Lowest}
 use Rattle.pages.specs.Surveys.{at}
 
 -- the numbers of a page 0 fit a kind of keys and a count of pages
 abbrev pub RootFits : Root → ℕ → ℕ → Type 0
 RootFits x kind count = (x.kind ≡ kind) × (x.depth ≤ 8) × (1 ≤ x.limit) × (x.limit ≤ 256) × (x.limit + 5 ≤ count)
-
--- the entries of directory page j, copied to their places
-pub record Copied (page before after : List ℕ) (j : ℕ) : Type 0 where
-  pub here : (k : ℕ) → k < 64 → at after (64 * j + k) ≡ entry_at page k
-  pub low : (i : ℕ) → i < 64 * j → at after i ≡ at before i
 
 -- unused entries are 0
 abbrev pub Unused : (ℕ → ℕ) → ℕ → Type 0

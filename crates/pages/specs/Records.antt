@@ -1,5 +1,5 @@
 -- The bytes of records and of buckets.
-use Rattle.std.specs.Prelude.{◌≡◌, ℕ, ◌+◌, ◌≤◌, Bool, true, false, ◌&&◌, List, ◌∷◌, ◌++◌, length, Some, None, Option, nat_le}
+use Rattle.std.specs.Prelude.{◌≡◌, ℕ, ◌+◌, ◌≤◌, Bool, true, false, ◌&&◌, List, ◌∷◌, ◌++◌, length, Some, None, Option, MatchOption, ◌≢◌, nat_le}
 use Rattle.std.specs.List.{flat_map, AllByRecursion}
 use Rattle.tree.specs.declared.classes.ClassRow.{ClassRow}
 use Rattle.tree.specs.Classes.{row_at}
@@ -20,6 +20,11 @@ record_bytes r =
 -- records, one after the other
 abbrev pub records : List Rec → List ℕ
 records rs = flat_map record_bytes rs
+
+-- a walk over bs, of which `left` is left, took the record that begins there with its place; or none begins there, and all is as it was
+abbrev pub Walked : List ℕ → List ℕ → Option (ℕ × Record) → List ℕ → List ℕ → Type 0
+Walked bs left r bs' left' =
+    (bs' ≡ bs) × MatchOption r (((x : Rec) (rest : List ℕ) → left ≢ record_bytes x ++ rest) × (left' ≡ left)) (λ p. (p.0 + length left ≡ length bs) × (left ≡ record_bytes (viewed p.1) ++ left'))
 
 -- the body of a bucket: its local depth, then its records
 abbrev pub bucket_body : ℕ → List Rec → List ℕ

@@ -20,7 +20,7 @@ pub use fault::CheckFault;
 pub use format::empty_store_page;
 pub use laws::{first_bucket, images_stand, pages_stand};
 pub use reading::read_page;
-pub use records::{Record, find, next_record};
+pub use records::{Record, Records, find, next_record};
 pub use root::{Condition, Root, read_root, root_page};
 
 #[cfg(test)]
@@ -42,6 +42,7 @@ mod tests {
         assert_eq!(rt; page[5], 11);
         let bucket = read_bucket::<TextKeys>(&page).ok_or("no bucket")?;
         let (place, found) = find::<TextKeys>(bucket.records, b"A").ok_or("not found")?;
+        assert_eq!(rt; Records::new(bucket.records).count(), 1);
         assert_eq!(rt; place, 0);
         assert_eq!(rt; found.day, 3650);
         Ok(())

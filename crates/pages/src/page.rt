@@ -24,6 +24,7 @@ pub(crate) fn page_of(body: &[u8]) -> Page
     ensures { length body.now ≤ 249 → result ≡ envelope body.now }
 {
     let mut page = empty_page();
+    // refused only without room, and then the page stays empty
     let _ = extend(&mut page, body);
     page
 }

@@ -1,9 +1,10 @@
 //! Records, one after the other in the bytes of a bucket.
 ghost use Rattle.std.specs.Prelude.{◌≡◌, ℕ, ◌+◌, ◌<◌, ◌≤◌, true, false, List, ◌++◌, length, MatchBool, MatchOption, ◌≢◌};
+ghost use Rattle.std.specs.Iterator.{at_most};
 ghost use Rattle.std.specs.List.{AllByRecursion};
 ghost use Rattle.tree.specs.Maps.{Rec};
 ghost use Rattle.pages.specs.Tells.{Tells};
-ghost use Rattle.pages.specs.Records.{record_bytes, records, viewed, fine, Fine, FoundAt};
+ghost use Rattle.pages.specs.Records.{record_bytes, records, viewed, fine, Fine, Walked, FoundAt};
 
 use keys::KeyRule;
 use tree::Class;
@@ -11,6 +12,7 @@ use tree::Class;
 /// A record in a page.
 #[derive(Clone, Copy, Debug, PartialEq, Eq)]
 pub struct Record<'a> {
+    // a number: a page may hold one that no class has
     pub class: u8,
     pub day: u32,
     pub key: &'a [u8],
@@ -63,46 +65,57 @@ fn is_fine<K: KeyRule>(stored: Record<'_>) -> bool
     }
 }
 
+/// The records at the front of some bytes, each with the byte where it begins.
+#[derive(Clone, Copy)]
+pub struct Records<'a> {
+    pub bytes: &'a [u8],
+    pub left: &'a [u8],
+    ghost inside: { length left.now ≤ length bytes.now },
+}
+
+impl<'a> Records<'a> {
+    /// Those at the front of these bytes.
+    pub fn new(bytes: &'a [u8]) -> Records<'a>
+        ensures all { result.bytes.now ≡ bytes.entry.now }
+        ensures left { result.left.now ≡ bytes.entry.now }
+    {
+        Records { bytes, left: bytes }
+    }
+}
+
+impl<'a> Iterator for Records<'a> {
+    type Item = (usize, Record<'a>);
+
+    ghost next_gives = { λ s r t. Walked s.bytes.now s.left.now r t.bytes.now t.left.now };
+
+    ghost remaining = { λ s. at_most (length s.left.now) };
+
+    fn next(&mut self) -> Option<(usize, Record<'a>)> {
+        let start = self.bytes.len() - self.left.len();
+        let (record, after) = next_record(self.left)?;
+        self.left = after;
+        Some((start, record))
+    }
+}
+
 /// Whether these bytes are records that may stand in a page.
 pub(crate) fn records_ok<K: KeyRule>(bytes: &[u8]) -> bool
     ensures { MatchBool result ((rs : List Rec) × (bytes.now ≡ records rs) × AllByRecursion (Fine K.KeyRule.rule.valid) rs) ((rs : List Rec) → bytes.now ≡ records rs → AllByRecursion (Fine K.KeyRule.rule.valid) rs → ⊥) }
 {
-    let mut left = bytes;
-    while !left.is_empty() {
-        let Some((record, after)) = next_record(left) else {
-            return false;
-        };
-        if !is_fine::<K>(record) {
-            return false;
-        }
-        left = after;
-    }
-    true
+    let mut rest = Records::new(bytes);
+    rest.all(|(_, record)| is_fine::<K>(record)) && rest.left.is_empty()
 }
 
 /// How many records these bytes are.
 pub(crate) fn count_records(bytes: &[u8]) -> usize
     ensures { (rs : List Rec) → bytes.now ≡ records rs → result ≡ length rs }
 {
-    let mut left = bytes;
-    let mut n: usize = 0;
-    while let Some((_, after)) = next_record(left) {
-        left = after;
-        n += 1;
-    }
-    n
+    Records::new(bytes).count()
 }
 
 /// The record of a key, and where it begins, or none.
 pub fn find<'a, K: KeyRule>(bytes: &'a [u8], key: &[u8]) -> Option<(usize, Record<'a>)>
     ensures { (rs : List Rec) → bytes.now ≡ records rs → MatchOption result (AllByRecursion (λ x. K.KeyRule.rule.same key.now x.key ≡ false) rs) (λ p. FoundAt K.KeyRule.rule.same key.now rs p.0 (viewed p.1)) }
 {
-    let mut left = bytes;
-    while let Some((record, after)) = next_record(left) {
-        if K::is_same(key, record.key) {
-            return Some((bytes.len() - left.len(), record));
-        }
-        left = after;
-    }
-    None
+    Records::new(bytes).find(|(_, record)| K::is_same(key, record.key))
 }

@@ -4,11 +4,13 @@ ghost use Rattle.layout.specs.Envelope.{envelope};
 ghost use Rattle.pages.specs.Bytes.{root_body};
 ghost use Rattle.pages.specs.Images.{number_of};
 
+use crate::page;
 use device::Page;
 
 /// The numbers of page 0: the kind of keys, the directory's depth, how many buckets there may be and are, and how many records.
 #[derive(Clone, Copy, Debug, PartialEq, Eq)]
 pub struct Root {
+    // a number: a page may hold one that no rule has
     pub kind: u8,
     pub depth: u8,
     pub limit: u16,
@@ -76,10 +78,5 @@ pub fn root_page(root: Root) -> Page
     let [l1, l0] = root.limit.to_be_bytes();
     let [u1, u0] = root.used.to_be_bytes();
     let [r3, r2, r1, r0] = root.records.to_be_bytes();
-    let mut page = layout::empty_page();
-    let _ = layout::extend(
-        &mut page,
-        &[root.kind, root.depth, l1, l0, u1, u0, r3, r2, r1, r0],
-    );
-    page
+    page::page_of(&[root.kind, root.depth, l1, l0, u1, u0, r3, r2, r1, r0])
 }

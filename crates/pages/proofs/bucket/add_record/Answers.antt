@@ -16,9 +16,6 @@ returns-in_err-need_room c =
     let p = err_from_is_err_and c.from_residual.result c.from_residual.ensures.1 in
     rw p.1 (λ body v. (omega (arith, c.in_err-need_room.ensures body v, record_length (viewed c.args.stored)), v.is))
 
-pub returns-in_err-extend : goal.returns-in_err-extend
-returns-in_err-extend c = λ body v. absurd (omega (arith, c.in_err-extend.ensures body v, c.in_ok-need_room.ensures body v))
-
 pub returns-in_err-extend-2 : goal.returns-in_err-extend-2
 returns-in_err-extend-2 c = λ body v. absurd (omega (arith, c.in_err-extend-2.ensures _ (c.in_ok-extend.ensures body v), c.in_ok-need_room.ensures body v, length-append body))
 

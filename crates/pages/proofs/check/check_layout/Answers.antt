@@ -1,4 +1,4 @@
-use Rattle.std.proofs.Common.{◌<◌, arith}
+use Rattle.std.proofs.Common.{◌<◌, refl, arith}
 use Rattle.std.proofs.lemmas.Result.{err_from_is_err_and}
 use Rattle.std.proofs.lemmas.Option.{MatchOption-at_some, MatchOption-at_none}
 use Rattle.pages.specs.Surveys.{at}
@@ -41,7 +41,7 @@ returns-then-not-unused_zero g c = λ h a.
     (λ n f y z.
     let r = MatchOption-at_some _ _ c.in_ok-root.root c.in_ok-root.ensures.ok_part y in
     let d = MatchOption-at_some _ _ c.in_ok-entries.entries c.in_ok-entries.ensures.ok_part z in
-    lowest_2 g.K.KeyRule.rule n f r.0 (second_not g.K.KeyRule.rule n f c.in_ok-root.root c.from-depth.result c.from-depth.ensures r.0 r.1 (at c.in_ok-entries.entries) d.1 c.if-not-unused_zero.ensures))
+    lowest_2 g.K.KeyRule.rule n f r.0 (second_not g.K.KeyRule.rule n f c.in_ok-root.root c.in_ok-root.root.depth refl r.0 r.1 (at c.in_ok-entries.entries) d.1 c.if-not-unused_zero.ensures))
 
 pub returns-then-not-in_range : goal.returns-then-not-in_range
 returns-then-not-in_range g c = λ h a.
@@ -51,8 +51,8 @@ returns-then-not-in_range g c = λ h a.
     (λ n f y z.
     let r = MatchOption-at_some _ _ c.in_ok-root.root c.in_ok-root.ensures.ok_part y in
     let d = MatchOption-at_some _ _ c.in_ok-entries.entries c.in_ok-entries.ensures.ok_part z in
-    lowest_3 g.K.KeyRule.rule n f r.0 (second_from g.K.KeyRule.rule n f c.in_ok-root.root c.from-depth.result c.from-depth.ensures r.0 r.1 (at c.in_ok-entries.entries) d.1 d.0 c.if-not-unused_zero.ensures)
-    (third_not g.K.KeyRule.rule n f c.in_ok-root.root c.from-depth.result c.from-depth.ensures r.0 r.1 (at c.in_ok-entries.entries) d.1 c.if-not-in_range.ensures))
+    lowest_3 g.K.KeyRule.rule n f r.0 (second_from g.K.KeyRule.rule n f c.in_ok-root.root c.in_ok-root.root.depth refl r.0 r.1 (at c.in_ok-entries.entries) d.1 d.0 c.if-not-unused_zero.ensures)
+    (third_not g.K.KeyRule.rule n f c.in_ok-root.root c.in_ok-root.root.depth refl r.0 r.1 (at c.in_ok-entries.entries) d.1 c.if-not-in_range.ensures))
 
 pub returns : goal.returns
 returns g c = λ h a.
@@ -64,8 +64,8 @@ returns g c = λ h a.
     let d = MatchOption-at_some _ _ c.in_ok-entries.entries c.in_ok-entries.ensures.ok_part z in
     record {
       first = r.0;
-      second = second_from g.K.KeyRule.rule n f c.in_ok-root.root c.from-depth.result c.from-depth.ensures r.0 r.1 (at c.in_ok-entries.entries) d.1 d.0 c.if-not-unused_zero.ensures;
-      third = third_from g.K.KeyRule.rule n f c.in_ok-root.root c.from-depth.result c.from-depth.ensures r.0 r.1 (at c.in_ok-entries.entries) d.1 c.if-not-in_range.ensures;
+      second = second_from g.K.KeyRule.rule n f c.in_ok-root.root c.in_ok-root.root.depth refl r.0 r.1 (at c.in_ok-entries.entries) d.1 d.0 c.if-not-unused_zero.ensures;
+      third = third_from g.K.KeyRule.rule n f c.in_ok-root.root c.in_ok-root.root.depth refl r.0 r.1 (at c.in_ok-entries.entries) d.1 c.if-not-in_range.ensures;
       rooted = r.1;
       entries = d.1;
     })

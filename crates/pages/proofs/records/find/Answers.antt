@@ -1,15 +1,8 @@
-use Rattle.std.proofs.Common.{sym, refl, arith}
-use Rattle.pages.proofs.Walks.{shorter, passed_more, passed_all, passed_hit}
+use Rattle.std.proofs.Common.{sym, ◌∙◌, rules}
+use borrow.Author.Tests.{tests}
+use Rattle.pages.proofs.Walks.{found_first}
 use Rattle.pages.proofs.records.find.Goals as goal
 
-pub returns-then-is_same : goal.returns-then-is_same
-returns-then-is_same g c = passed_hit g.K.KeyRule.rule.same c.args.key.now c.args.bytes.now _ _ _ _ refl c.in-Some.ensures (sym c.if-is_same.ensures) c.loop-record.invariant.0
-
-pub loop-record-smaller : goal.loop-record-smaller
-loop-record-smaller g c = omega (arith, shorter _ _ _ c.in-Some.ensures)
-
-pub loop-record-preserved : goal.loop-record-preserved
-loop-record-preserved g c = (passed_more g.K.KeyRule.rule.same c.args.key.now c.args.bytes.now _ _ _ c.in-Some.ensures (sym c.if-is_same.ensures) c.loop-record.invariant.0, omega (arith, c.loop-record.invariant.1, shorter _ _ _ c.in-Some.ensures))
-
 pub returns : goal.returns
-returns g c = passed_all g.K.KeyRule.rule.same c.args.key.now c.args.bytes.now c.loop-record.left.now c.in_default.ensures c.loop-record.invariant.0
+returns g c = λ rs e.
+    found_first g.K.KeyRule.rule.same c.args.key.now _ _ (λ x q k. search (rules, tests)) (λ x q k. search (rules, tests)) c.new.result c.find.new.self c.find.result c.find.ensures.ran (c.new.ensures.left ∙ sym c.new.ensures.all) rs (c.new.ensures.all ∙ e)

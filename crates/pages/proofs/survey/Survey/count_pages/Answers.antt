@@ -11,7 +11,7 @@ pub loop-i-init : goal.loop-i-init
 loop-i-init c = (
   omega arith,
   λ L s f.
-      let w = c.args.self.now.depth in
+      let w = c.args.self.now.root.depth in
       let d : ℕ → ℕ = depth_at c.args.self.now.buckets.now in (
         buckets L,
         omega arith,
@@ -22,7 +22,7 @@ loop-i-init c = (
 
 pub loop-i-preserved : goal.loop-i-preserved
 loop-i-preserved c =
-    let w = c.args.self.now.depth in
+    let w = c.args.self.now.root.depth in
     let d : ℕ → ℕ = depth_at c.args.self.now.buckets.now in
     let i = c.loop-i.i in
     let h : i < 2 ^ w = omega (arith, c.loop-i-test.true, c.args.self.now.buckets_wide) in (
@@ -36,4 +36,4 @@ loop-i-preserved c =
 pub returns : goal.returns
 returns c = λ L s f.
     let v = c.loop-i.invariant.1 L s f in
-    omega (arith, v.1, walk_done c.args.self.now.depth v.0 c.loop-i.i (2 ^ c.args.self.now.depth) v.2 (omega (arith, c.loop-i-test.false, c.args.self.now.buckets_wide)))
+    omega (arith, v.1, walk_done c.args.self.now.root.depth v.0 c.loop-i.i (2 ^ c.args.self.now.root.depth) v.2 (omega (arith, c.loop-i-test.false, c.args.self.now.buckets_wide)))

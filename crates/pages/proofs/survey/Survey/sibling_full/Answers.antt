@@ -7,6 +7,6 @@ use Rattle.pages.proofs.survey.Survey.sibling_full.Goals as goal
 
 pub returns : goal.returns
 returns c =
-    let P : ℕ → Type 0 = λ i. PairFull (depth_at c.args.self.now.buckets.now) (bytes_at c.args.self.now.buckets.now) c.args.self.now.depth c.args.i i in
-    range_all P c.all.result _ (2 ^ c.args.self.now.depth) (omega (arith, c.args.self.now.buckets_wide))
+    let P : ℕ → Type 0 = λ i. PairFull (depth_at c.args.self.now.buckets.now) (bytes_at c.args.self.now.buckets.now) c.args.self.now.root.depth c.args.i i in
+    range_all P c.all.result _ (2 ^ c.args.self.now.root.depth) (omega (arith, c.args.self.now.buckets_wide))
     (cases_from_all _ _ _ P (λ i. P i → ⊥) c.all.ensures.ran (YieldsList-from_range 0 _ _ refl refl) (λ x q k. search (rules, tests)) (λ x q k. search (rules, tests)))
