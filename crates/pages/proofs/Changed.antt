@@ -1,13 +1,19 @@
 -- A bucket's page after a change.
-use Rattle.std.proofs.Common.{◌≡◌, ℕ, ◌+◌, ◌-◌, ◌<◌, ◌≤◌, List, ◌∷◌, ◌++◌, length, take, drop, Ok, Err, Result, sym, refl, ap, ◌∙◌, arith, length-append, length-drop, MatchOption, MatchResult}
+use Rattle.std.proofs.Common.{◌≡◌, ℕ, ◌+◌, ◌-◌, ◌<◌, ◌≤◌, List, [], ◌∷◌, ◌++◌, length, take, drop, Ok, Err, Result, sym, refl, ap, ◌∙◌, arith, length-append, length-drop, MatchOption, MatchResult}
 use Rattle.std.specs.List.{slice_range}
 use Rattle.std.specs.Result.{result_ok}
-use Rattle.std.proofs.lemmas.List.{take_all, take_at, drop_at, drop-drop, append_assoc}
+use Rattle.std.proofs.lemmas.List.{take_all, take_at, drop_at, drop-drop, append_assoc, append-nil}
 use Rattle.tree.specs.Maps.{Rec, size}
 use Rattle.layout.specs.Envelope.{envelope, Enveloped}
 use Rattle.layout.specs.declared.NoRoom.{NoRoom}
 use Rattle.pages.specs.Records.{record_bytes, records, BucketIs}
 use Rattle.pages.proofs.Codec.{record_length, records_append}
+
+pub append_made : (p : List ℕ) (d : ℕ) (bs : List ℕ) (rs : List Rec) (x : Rec) → bs ≡ records rs → Enveloped p ((d ∷ bs) ++ record_bytes x) → BucketIs p d (rs ++ x ∷ [])
+append_made p d bs rs x e v =
+    let a : bs ++ record_bytes x ≡ records (rs ++ x ∷ []) =
+    ap (λ (l : List ℕ). l ++ record_bytes x) e ∙ ap (λ (l : List ℕ). records rs ++ l) (sym (append-nil (record_bytes x))) ∙ sym (records_append rs (x ∷ [])) in
+    record { fits = omega (arith, v.fits, ap length a); is = v.is ∙ ap (λ (l : List ℕ). envelope (d ∷ l)) a }
 
 pub three_parts : (bs : List ℕ) (before : List Rec) (x : Rec) (after : List Rec) → bs ≡ records (before ++ x ∷ after)
     → (bs ≡ records before ++ (record_bytes x ++ records after)) × (length bs ≡ length (records before) + (size x + length (records after)))
