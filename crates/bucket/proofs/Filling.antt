@@ -10,6 +10,7 @@ use Rattle.tree.specs.Maps.{Rec, size}
 use Rattle.pages.specs.declared.records.Record.{Record}
 use Rattle.pages.specs.Records.{viewed, record_bytes, records, bucket_body, BucketIs}
 use Rattle.pages.proofs.Codec.{record_length, records_append, records_length}
+use Rattle.pages.proofs.Changed.{append_made}
 use Rattle.pages.proofs.Walks.{one_more, no_more, shorter}
 use Rattle.bucket.specs.Sifts.{new_in}
 
@@ -17,14 +18,7 @@ use Rattle.bucket.specs.Sifts.{new_in}
 pub bucket_enveloped : (p : List ℕ) (d : ℕ) (rs : List Rec) → BucketIs p d rs → Enveloped p (bucket_body d rs)
 bucket_enveloped p d rs b = record { fits = omega (arith, b.fits); is = b.is }
 
--- one record more, in the body of a page
-append_made : (p : List ℕ) (d : ℕ) (bs : List ℕ) (rs : List Rec) (x : Rec) → bs ≡ records rs → Enveloped p ((d ∷ bs) ++ record_bytes x) → BucketIs p d (rs ++ x ∷ [])
-append_made p d bs rs x e v =
-    let a : bs ++ record_bytes x ≡ records (rs ++ x ∷ []) =
-    ap (λ (l : List ℕ). l ++ record_bytes x) e ∙ ap (λ (l : List ℕ). records rs ++ l) (sym (append-nil (record_bytes x))) ∙ sym (records_append rs (x ∷ [])) in
-    record { fits = omega (arith, v.fits, ap length a); is = v.is ∙ ap (λ (l : List ℕ). envelope (d ∷ l)) a }
-
--- the same, where there is room
+-- one record more, where there is room
 pub record_added : (p p' : List ℕ) (d : ℕ) (rs : List Rec) (x : Rec) (r : Result (Unit {0}) NoRoom) → BucketIs p d rs → length (records rs) + size x ≤ 248
     → ((body : List ℕ) → Enveloped p body → Extended p' body (record_bytes x) r) → BucketIs p' d (rs ++ x ∷ [])
 record_added p p' d rs x r b room ext =

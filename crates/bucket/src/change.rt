@@ -33,6 +33,7 @@ impl<'a> KeyChange<'a> {
     pub fn load_of<K: KeyRule>(self, bits: u32, prefix: u32) -> usize
         ensures { (rs : List Rec) → self.entry.records.now ≡ records rs → result ≡ sifted K.KeyRule.rule self.entry.key.now bits prefix rs }
     {
+        // by the bytes: the size of a record is what it takes of them
         let mut left = self.records;
         let mut load: usize = 0;
         while let Some((record, after)) = pages::next_record(left) {

@@ -27,12 +27,10 @@ impl<'a> KeyChange<'a> {
         ensures { (rs : List Rec) → self.entry.records.now ≡ records rs → length self.entry.records.now ≤ room → BucketIs result bits (sift K.KeyRule.rule self.entry.key.now bits prefix rs) }
     {
         let mut page = empty_bucket(bits);
-        let mut left = self.records;
-        while let Some((record, after)) = pages::next_record(left) {
+        for (_, record) in pages::Records::new(self.records) {
             if self.is_kept::<K>(record, bits as u32, prefix) {
                 let _ = pages::add_record(&mut page, record);
             }
-            left = after;
         }
         page
     }
