@@ -101,6 +101,7 @@ pub trait Device {
 }
 
 /// A group device is a page device with a base, and with ends: the whole images that may stand after a loss of power.
+/// Its calls are declared anew, since no clause of a device's calls can speak of base and ends.
 pub trait GroupDevice: Device {
     // the base and the ends at this moment
     ghost grouped: { Self → Grouped };

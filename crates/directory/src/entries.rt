@@ -77,6 +77,7 @@ impl Directory {
         requires { limit ≤ 256 }
         ensures { MatchOption result (NoneFree self.now.depth limit (at self.now.entries)) (FirstFree self.now.depth limit (at self.now.entries)) }
     {
+        // A `for`: the check does not find what `find` answers of a range.
         let first = first_page();
         for page in first..first + limit {
             if !self.is_named(page) {

@@ -25,7 +25,7 @@ pub trait KeyRule {
     fn hash(key: &[u8]) -> u32
         ensures { result ≡ rule.hash key.now };
 
-    /// The byte that names the rule in what is stored.
+    /// The byte that names the rule in what is stored. Any rule may have its own, so the rules are no enum.
     fn kind() -> u8
         ensures { result ≡ rule.kind };
 

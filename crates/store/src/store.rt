@@ -27,6 +27,7 @@ pub struct Store<D, K> {
     device: D,
     phase: Phase,
     counter: u32,
+    // beside the phase, since the book keeps it in each
     changes: u8,
     rule: PhantomData<K>,
 }

@@ -18,6 +18,7 @@ pub enum Class {
 pub struct NotListed;
 
 /// What is said of a class: its number, its letter, the days that a record is kept, and the most bytes of a value.
+/// Number and letter are bytes, since so they stand in a page and in an answer.
 #[derive(Clone, Copy, Debug, PartialEq, Eq)]
 pub struct ClassRow {
     pub class: u8,
