@@ -1,5 +1,5 @@
 -- The record of a key: in a map, in the bucket of its hash, and in the pages.
-use Rattle.std.proofs.Common.{◌≡◌, ℕ, ◌+◌, ◌/◌, ◌%◌, ◌^◌, ◌<◌, ◌≤◌, min, Bool, true, false, cond, eqb, ◌⊎◌, List, [], ◌∷◌, length, IfSome, Some, None, Option, sym, refl, ap, ◌∙◌, subst, inl, inr, ⊎_elim, arith, pow_mono, MatchOption}
+use Rattle.std.proofs.Common.{◌≡◌, ◌≢◌, ℕ, ◌+◌, ◌/◌, ◌%◌, ◌^◌, ◌<◌, ◌≤◌, min, Bool, true, false, cond, eqb, ◌⊎◌, List, [], ◌∷◌, length, IfSome, Some, None, Option, sym, refl, ap, ◌∙◌, subst, inl, inr, ⊎_elim, arith, pow_mono, MatchOption}
 use Rattle.std.specs.List.{AllByRecursion}
 use Rattle.std.proofs.lemmas.Bool.{both_ways, cases_Bool, cond-true, cond-false, and_parts, leb-true, false≢true}
 use Rattle.device.specs.Meaning.{State, bytes, spoiled}
@@ -18,7 +18,8 @@ use Rattle.tree.proofs.Sets.{in_right}
 use Rattle.pages.specs.declared.root.Root.{Root}
 use Rattle.pages.specs.Bytes.{root_body, entry_at}
 use Rattle.pages.specs.Records.{records, BucketIs, BucketRead, Fine, FoundAt, within}
-use Rattle.pages.specs.Images.{shows, root, entry, AllMet, WellFormed}
+use Rattle.pages.specs.Images.{shows, root, root_in, entry, AllMet, WellFormed}
+use Rattle.pages.proofs.Checking.{root_is}
 use Rattle.pages.specs.Laws.{Fits}
 use Rattle.pages.proofs.Envelopes.{bucket_one}
 use Rattle.pages.proofs.Forming.{formed_to}
@@ -95,12 +96,17 @@ prefix_small hash dep i h d e = let p : 2 ^ dep ≤ 2 ^ 8 = pow_mono d in omega 
 
 module _ (R : Rule) (n : ℕ) (f : ℕ → State) where
   -- a page of the image that is by some layout was read
-  pub home_is : (hash dep i : ℕ) (p q : List ℕ) → f 0 ≡ bytes p → f (1 + i / 64) ≡ bytes q
-      → ((x : Root) → p ≡ envelope (root_body x) → dep ≡ min x.depth 8) → i ≡ pre 32 hash dep → AllMet R n f → entry_at q (i % 64) ≡ entry f (pre 32 hash (root f).depth)
-  home_is hash dep i p q zero one d e m =
-      let t : dep ≡ (root f).depth = d (root f) (ap shows (sym zero) ∙ m.first.layout) ∙ omega (arith, m.first.deep) in
+  pub home_is : (hash dep i : ℕ) (p q : List ℕ) (x : Root) → f 0 ≡ bytes p → p ≡ envelope (root_body x) → f (1 + i / 64) ≡ bytes q
+      → dep ≡ min x.depth 8 → i ≡ pre 32 hash dep → AllMet R n f → entry_at q (i % 64) ≡ entry f (pre 32 hash (root f).depth)
+  home_is hash dep i p q x zero is one d e m =
+      let same : root f ≡ x = ap root_in (ap shows zero) ∙ root_is p x is in
+      let t : dep ≡ (root f).depth = d ∙ ap (λ (r : Root). min r.depth 8) (sym same) ∙ omega (arith, m.first.deep) in
       let u : i ≡ pre 32 hash (root f).depth = e ∙ ap (pre 32 hash) t in
       ap (λ (z : List ℕ). entry_at z (i % 64)) (ap shows (sym one)) ∙ ap (entry f) u
+
+  -- page 0 is by layout
+  pub root_laid : (p : List ℕ) → f 0 ≡ bytes p → ((x : Root) → p ≢ envelope (root_body x)) → AllMet R n f → ⊥
+  root_laid p zero un m = un (root f) (ap shows (sym zero) ∙ m.first.layout)
 
 module _ (R : Rule) (law : Lawful R) (n : ℕ) (f : ℕ → State) (m : List Rec) (formed : WellFormed R n f m) (k : List ℕ) (valid : R.valid k ≡ true) where
   depths : ℕ → ℕ

@@ -25,28 +25,20 @@ pub struct Found {
     pub length: usize,
 }
 
-/// The depth that a page 0 says, at most 8.
-fn depth_in(page: &Page) -> u32
-    ensures few { result ≤ 8 }
-    ensures says { (x : Root) → page.now ≡ envelope (root_body x) → result ≡ min x.depth 8 }
-{
-    match pages::read_root(page) {
-        Some(root) => u32::from(root.depth.min(8)),
-        None => 0,
-    }
-}
-
-/// The page that the directory names for a hash; none where a page that tells it is spoiled.
+/// The page that the directory names for a hash; none where a page that tells it is spoiled, or page 0 by no layout.
 fn home_page<D: GroupDevice, K: KeyRule>(
     device: &mut D,
     hash: u32,
 ) -> Result<Option<usize>, DeviceFault>
     ensures { 5 < (D.Device.meaning device.old).count → Looks D.Device.agrees D.Device.meaning D.GroupDevice.grouped 2 device.old result device.new (λ n f o. AllMet K.KeyRule.rule n f → o ≡ Some (entry f (pre 32 hash (root f).depth))) }
 {
-    let Some(root) = read_page(device, 0)? else {
+    let Some(page) = read_page(device, 0)? else {
         return Ok(None);
     };
-    let i = tree::prefix(hash, depth_in(&root));
+    let Some(root) = pages::read_root(&page) else {
+        return Ok(None);
+    };
+    let i = tree::prefix(hash, u32::from(root.depth.min(8)));
     let Some(entries) = read_page(device, 1 + (i / 64) as usize)? else {
         return Ok(None);
     };
