@@ -1,10 +1,12 @@
 -- A walk over the records of a bucket that takes those that a change leaves.
-use Rattle.std.proofs.Common.{◌≡◌, ℕ, ◌+◌, ◌-◌, Bool, true, false, List, ◌∷◌, ◌++◌, length, sum_by, filter, ap, ◌∙◌, arith}
+use Rattle.std.proofs.Common.{◌≡◌, ℕ, ◌+◌, ◌-◌, ◌<◌, ◌≤◌, Bool, true, false, List, ◌∷◌, ◌++◌, length, sum_by, filter, Option, None, Some, MatchOption, ap, ◌∙◌, arith}
 use Rattle.std.proofs.lemmas.List.Sums.{sum_by-cons}
 use Rattle.std.proofs.lemmas.Bool.{cond-true, cond-false}
 use Rattle.tree.specs.Maps.{Rec, size}
+use Rattle.tree.specs.Trees.{room}
 use Rattle.pages.specs.Records.{record_bytes, records}
 use Rattle.pages.proofs.Walks.{one_more, no_more, shorter}
+use Rattle.bucket.specs.Sifts.{FirstRoom}
 
 module _ (t : Rec → Bool) where
   -- the load so far, and that of what is left, are the whole
@@ -31,3 +33,9 @@ module _ (t : Rec → Bool) where
   loaded_all bs left n un c rs r =
       let k = c rs r in
       omega (arith, k.2, ap (λ (l : List Rec). sum_by size (filter t l)) (no_more left k.0 un k.1))
+
+-- the first number of bits under which a load has room
+pub first_room : (load : ℕ → ℕ) (low : ℕ) (r : Option ℕ)
+    → MatchOption r ((k : ℕ) → low ≤ k → k < 9 → room < load k) (λ n. (low ≤ n) × (n < 9) × (load n ≤ room) × ((k : ℕ) → low ≤ k → k < n → room < load k)) → FirstRoom load low r
+first_room load low None h = λ k a b. h k a (omega arith)
+first_room load low (Some n) h = (h.0, omega (arith, h.1), h.2, h.3)

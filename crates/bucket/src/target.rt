@@ -33,12 +33,6 @@ impl<'a> KeyChange<'a> {
     pub fn target_bits<K: KeyRule>(self, hash: u32, bits: u8, more: usize) -> Option<u8>
         ensures { (rs : List Rec) → self.entry.records.now ≡ records rs → FirstRoom (own_load K.KeyRule.rule self.entry.key.now hash more rs) bits result }
     {
-        // A `for`: the check does not find what `find` answers of a range.
-        for n in bits..=DEEPEST {
-            if self.has_room::<K>(hash, n as u32, more) {
-                return Some(n);
-            }
-        }
-        None
+        (bits..DEEPEST + 1).find(|n| self.has_room::<K>(hash, *n as u32, more))
     }
 }

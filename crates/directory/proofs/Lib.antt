@@ -3,3 +3,4 @@ pub mod Naming
 pub mod Narrowing
 pub mod Taken
 pub mod Paths
+pub mod Ranges

@@ -77,14 +77,8 @@ impl Directory {
         requires { limit ≤ 256 }
         ensures { MatchOption result (NoneFree self.now.depth limit (at self.now.entries)) (FirstFree self.now.depth limit (at self.now.entries)) }
     {
-        // A `for`: the check does not find what `find` answers of a range.
         let first = first_page();
-        for page in first..first + limit {
-            if !self.is_named(page) {
-                return Some(page);
-            }
-        }
-        None
+        (first..first + limit).find(|page| !self.is_named(*page))
     }
 }
 
@@ -109,13 +103,7 @@ pub(crate) fn pairs_agree(entries: &[u16; 256], pairs: usize) -> bool
     requires { pairs ≤ 128 }
     ensures { MatchBool result ((i : ℕ) → i < pairs → at entries.now (2 * i) ≡ at entries.now (2 * i + 1)) ((i : ℕ) × (i < pairs) × Differ (at entries.now) i) }
 {
-    // By index: of `as_chunks::<2>` with `all` the check does not find what the answer says.
-    for i in 0..pairs {
-        if entries[2 * i] != entries[2 * i + 1] {
-            return false;
-        }
-    }
-    true
+    (0..pairs).all(|i| entries[2 * i] == entries[2 * i + 1])
 }
 
 /// Moves one entry of each pair to the front.
