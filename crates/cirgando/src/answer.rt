@@ -1,9 +1,11 @@
 // The answers of a transcript.
 use crate::command::Wrong;
+use access::Found;
 use device::DeviceFault;
 use disk::ArmFault;
 use std::alloc::AllocError;
 use std::fmt;
+use store::StoreFault;
 
 /// The answer to a command that was accepted.
 #[derive(Drop)]
@@ -12,6 +14,8 @@ pub(crate) enum Answer {
     Count(usize),
     Bytes(Vec<u8>),
     Hash(u32),
+    /// What is told of a record, and its value.
+    Got(Found, Vec<u8>),
 }
 
 /// Why a command was not accepted.
@@ -21,6 +25,8 @@ pub(crate) enum Denial {
     Arm(ArmFault),
     /// A device refused a call.
     Device(DeviceFault),
+    /// A store refused a call.
+    Store(StoreFault),
     /// A key is not valid under its rule.
     KeyNotValid,
     /// The line is no command that can be played.
@@ -38,6 +44,12 @@ impl From<ArmFault> for Denial {
 impl From<DeviceFault> for Denial {
     fn from(fault: DeviceFault) -> Denial {
         Denial::Device(fault)
+    }
+}
+
+impl From<StoreFault> for Denial {
+    fn from(fault: StoreFault) -> Denial {
+        Denial::Store(fault)
     }
 }
 
@@ -66,6 +78,11 @@ impl fmt::Display for Answer {
                 let first = hash >> 24;
                 write!(f, "ok 0x{hash:08x} {first:08b}")
             }
+            Answer::Got(found, value) => {
+                let letter = char::from(found.letter);
+                write!(f, "ok {letter} {} {} 0x", found.last_day, found.length)?;
+                hex(value.as_slice(), f)
+            }
         }
     }
 }
@@ -75,6 +92,13 @@ impl fmt::Display for Denial {
         match self {
             Denial::Arm(fault) => write!(f, "refused {}", fault.number()),
             Denial::Device(fault) => write!(f, "refused {}", fault.number()),
+            Denial::Store(fault) => {
+                write!(f, "refused {}", fault.number())?;
+                match fault.condition() {
+                    Some(condition) => write!(f, " W{}", condition.number()),
+                    None => Ok(()),
+                }
+            }
             Denial::KeyNotValid => write!(f, "refused 3"),
             Denial::Wrong(wrong) => write!(f, "error: {wrong}"),
             Denial::NoMemory(error) => write!(f, "error: {error}"),

@@ -6,12 +6,47 @@ use std::str::SplitWhitespace;
 /// A command, with the words that it is given.
 #[derive(Clone, Copy)]
 pub(crate) enum Command<'a> {
-    /// A new pile.
-    Pile(Pile),
-    /// A call on the pile.
+    /// What stands is another thing then.
+    Turn(Turn),
+    /// A call on what stands.
     Call(Call<'a>),
     /// The hash of a key.
     Key(Key<'a>),
+}
+
+/// A command after which another thing stands.
+#[derive(Clone, Copy)]
+pub(crate) enum Turn {
+    /// A new pile.
+    Pile(Pile),
+    /// A store over the pile.
+    Store(Rule),
+    /// The pile again, without the store.
+    Close,
+}
+
+/// What stands: nothing, a pile that is no group device, one that is, or a store over one.
+#[derive(Clone, Copy)]
+pub(crate) enum Stage {
+    Nothing,
+    Single,
+    Group,
+    Store,
+}
+
+impl Stage {
+    /// The turn, where it can be taken from here.
+    pub(crate) fn takes(self, turn: Turn) -> Result<Turn, Wrong> {
+        match (self, turn) {
+            (_, Turn::Pile(_)) | (Stage::Group, Turn::Store(_)) | (Stage::Store, Turn::Close) => {
+                Ok(turn)
+            }
+            (Stage::Nothing, Turn::Store(_)) => Err(Wrong::NoPile),
+            (Stage::Single, Turn::Store(_)) => Err(Wrong::NoGroup),
+            (Stage::Store, Turn::Store(_)) => Err(Wrong::StoreStands),
+            (_, Turn::Close) => Err(Wrong::NoStore),
+        }
+    }
 }
 
 /// A key, as it is written, and its rule.
@@ -46,16 +81,33 @@ pub(crate) enum Rule {
     Text,
 }
 
-/// A call on a pile.
+/// A call on what stands.
 #[derive(Clone, Copy)]
 pub(crate) enum Call<'a> {
     /// Arms the disk at the bottom.
     Arm { n: u32, letters: &'a str, t: u64 },
+    /// A call on the top of a pile.
+    Page(PageCall<'a>),
+    /// A call of a store.
+    Store(StoreCall<'a>),
+}
+
+/// A call on the top of a pile.
+#[derive(Clone, Copy)]
+pub(crate) enum PageCall<'a> {
     Read { page: u64, len: u64 },
     Write { page: u64, bytes: &'a str },
     Sync,
     Restart,
     Discard,
+}
+
+/// A call of a store.
+#[derive(Clone, Copy)]
+pub(crate) enum StoreCall<'a> {
+    Format,
+    Recover,
+    Get { key: &'a str, len: u64 },
 }
 
 /// What is wrong with a line.
@@ -68,6 +120,8 @@ pub(crate) enum Wrong {
     NotBytes,
     NoPile,
     NoGroup,
+    NoStore,
+    StoreStands,
 }
 
 /// The forms of the commands.
@@ -77,6 +131,11 @@ pub(crate) enum Form {
     Arm,
     Page,
     Key,
+    Store,
+    Close,
+    Format,
+    Recover,
+    Get,
 }
 
 impl fmt::Display for Form {
@@ -88,6 +147,11 @@ impl fmt::Display for Form {
             Form::Key => "key RULE BYTES, RULE being text or integer",
             Form::Page =>
                 "page read P LEN, page write P BYTES, page sync, page restart or page discard",
+            Form::Store => "store RULE, RULE being text or integer",
+            Form::Close => "close",
+            Form::Format => "format",
+            Form::Recover => "recover",
+            Form::Get => "get KEY LEN",
         })
     }
 }
@@ -102,6 +166,8 @@ impl fmt::Display for Wrong {
             Wrong::NotBytes => f.write_str("bytes are 0x and an even number of hex digits"),
             Wrong::NoPile => f.write_str("there is no pile"),
             Wrong::NoGroup => f.write_str("the pile is no group device"),
+            Wrong::NoStore => f.write_str("there is no store"),
+            Wrong::StoreStands => f.write_str("a store stands on the pile"),
         }
     }
 }
@@ -116,11 +182,17 @@ pub(crate) fn parse(line: &[u8]) -> Result<Option<Command<'_>>, Wrong> {
     let Some(first) = words.next() else {
         return Ok(None);
     };
+    let words = &mut words;
     let command = match first {
-        "pile" => Command::Pile(pile_command(&mut words)?),
-        "arm" => Command::Call(arm_command(&mut words)?),
-        "page" => Command::Call(page_command(&mut words)?),
-        "key" => Command::Key(key_command(&mut words)?),
+        "pile" => Command::Turn(pile_command(words)?),
+        "store" => Command::Turn(store_command(words)?),
+        "close" => Command::Turn(alone(words, Form::Close, Turn::Close)?),
+        "arm" => Command::Call(arm_command(words)?),
+        "page" => Command::Call(page_command(words)?),
+        "format" => Command::Call(alone(words, Form::Format, Call::Store(StoreCall::Format))?),
+        "recover" => Command::Call(alone(words, Form::Recover, Call::Store(StoreCall::Recover))?),
+        "get" => Command::Call(get_command(words)?),
+        "key" => Command::Key(key_command(words)?),
         _ => return Err(Wrong::NoCommand),
     };
     Ok(Some(command))
@@ -144,14 +216,20 @@ fn end<'a>(words: &mut SplitWhitespace<'a>, form: Form) -> Result<(), Wrong> {
     }
 }
 
-fn pile_command<'a>(words: &mut SplitWhitespace<'a>) -> Result<Pile, Wrong> {
+// A command of one word.
+fn alone<'a, T: Copy>(words: &mut SplitWhitespace<'a>, form: Form, command: T) -> Result<T, Wrong> {
+    end(words, form)?;
+    Ok(command)
+}
+
+fn pile_command<'a>(words: &mut SplitWhitespace<'a>) -> Result<Turn, Wrong> {
     let form = Form::Pile;
     let "disk" = word(words, form)? else {
         return Err(Wrong::Usage(form));
     };
     let pages = number_word(words, form)?;
     let layers = layer_words(words)?;
-    Ok(Pile { pages, layers })
+    Ok(Turn::Pile(Pile { pages, layers }))
 }
 
 // The layers that the rest of a line names.
@@ -176,34 +254,53 @@ fn arm_command<'a>(words: &mut SplitWhitespace<'a>) -> Result<Call<'a>, Wrong> {
     Ok(Call::Arm { n, letters, t })
 }
 
+// A key rule, by its name.
+fn rule_word<'a>(words: &mut SplitWhitespace<'a>, form: Form) -> Result<Rule, Wrong> {
+    match word(words, form)? {
+        "text" => Ok(Rule::Text),
+        "integer" => Ok(Rule::Integers),
+        _ => Err(Wrong::Usage(form)),
+    }
+}
+
+fn store_command<'a>(words: &mut SplitWhitespace<'a>) -> Result<Turn, Wrong> {
+    let rule = rule_word(words, Form::Store)?;
+    end(words, Form::Store)?;
+    Ok(Turn::Store(rule))
+}
+
 fn key_command<'a>(words: &mut SplitWhitespace<'a>) -> Result<Key<'a>, Wrong> {
     let form = Form::Key;
-    let rule = match word(words, form)? {
-        "text" => Rule::Text,
-        "integer" => Rule::Integers,
-        _ => return Err(Wrong::Usage(form)),
-    };
+    let rule = rule_word(words, form)?;
     let bytes = word(words, form)?;
     end(words, form)?;
     Ok(Key { rule, bytes })
 }
 
+fn get_command<'a>(words: &mut SplitWhitespace<'a>) -> Result<Call<'a>, Wrong> {
+    let form = Form::Get;
+    let key = word(words, form)?;
+    let len = number_word(words, form)?;
+    end(words, form)?;
+    Ok(Call::Store(StoreCall::Get { key, len }))
+}
+
 fn page_command<'a>(words: &mut SplitWhitespace<'a>) -> Result<Call<'a>, Wrong> {
     let form = Form::Page;
     let call = match word(words, form)? {
-        "read" => Call::Read {
+        "read" => PageCall::Read {
             page: number_word(words, form)?,
             len: number_word(words, form)?,
         },
-        "write" => Call::Write {
+        "write" => PageCall::Write {
             page: number_word(words, form)?,
             bytes: word(words, form)?,
         },
-        "sync" => Call::Sync,
-        "restart" => Call::Restart,
-        "discard" => Call::Discard,
+        "sync" => PageCall::Sync,
+        "restart" => PageCall::Restart,
+        "discard" => PageCall::Discard,
         _ => return Err(Wrong::Usage(form)),
     };
     end(words, form)?;
-    Ok(call)
+    Ok(Call::Page(call))
 }

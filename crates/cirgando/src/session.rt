@@ -1,6 +1,8 @@
 // Plays the commands of a transcript.
 use crate::answer::{Answer, Denial};
-use crate::command::{Call, Command, Key, Layers, Pile, Rule, Wrong, parse};
+use crate::command::{
+    Call, Command, Key, Layers, PageCall, Pile, Rule, Stage, StoreCall, Turn, Wrong, parse,
+};
 use crate::script::Script;
 use crate::words::bytes;
 use cache::Cache;
@@ -11,6 +13,7 @@ use keys::{IntegerKeys, KeyRule, TextKeys};
 use pile::Armed;
 use std::alloc::Global;
 use std::io::BufRead;
+use store::Store;
 
 /// The most pages of a disk, and the bytes of its raw pages.
 const MAX_PAGES: u64 = 131_072;
@@ -28,22 +31,25 @@ pub(crate) fn play<R: BufRead + Drop>(
     rt: &HostRuntime,
     script: &mut Script<R>,
 ) -> anyhow::Result<()> {
-    let mut next = play_commands(rt, script, |_| Err(Denial::Wrong(Wrong::NoPile)))?;
+    let mut turn = play_commands(rt, script, Stage::Nothing, |_| {
+        Err(Denial::Wrong(Wrong::NoPile))
+    })?;
     for _ in 0..MAX_LINES {
-        let Some(pile) = next else {
+        let Some(Turn::Pile(pile)) = turn else {
             break;
         };
-        next = play_new_pile(rt, script, pile)?;
+        turn = play_new_pile(rt, script, pile)?;
     }
     Ok(())
 }
 
-// Plays the commands up to the next pile, which it answers. What a call on the pile is answered is told by `answer`.
+// Plays the commands up to the next turn, which it answers. What a call is answered is told by `answer`.
 fn play_commands<R: BufRead + Drop, F: FnMut(Call<'_>) -> Result<Answer, Denial>>(
     rt: &HostRuntime,
     script: &mut Script<R>,
+    stage: Stage,
     mut answer: F,
-) -> anyhow::Result<Option<Pile>>
+) -> anyhow::Result<Option<Turn>>
     requires { F.IsAlwaysCallable answer }
 {
     for _ in 0..MAX_LINES {
@@ -52,7 +58,10 @@ fn play_commands<R: BufRead + Drop, F: FnMut(Call<'_>) -> Result<Answer, Denial>
         };
         match parse(line) {
             Ok(None) => {}
-            Ok(Some(Command::Pile(pile))) => return Ok(Some(pile)),
+            Ok(Some(Command::Turn(turn))) => match stage.takes(turn) {
+                Ok(turn) => return Ok(Some(turn)),
+                Err(wrong) => say(rt, Err(Denial::Wrong(wrong)))?,
+            },
             Ok(Some(Command::Key(key))) => say(rt, hash(rt.alloc(), key))?,
             Ok(Some(Command::Call(call))) => say(rt, answer(call))?,
             Err(wrong) => say(rt, Err(Denial::Wrong(wrong)))?,
@@ -61,12 +70,12 @@ fn play_commands<R: BufRead + Drop, F: FnMut(Call<'_>) -> Result<Answer, Denial>
     Ok(None)
 }
 
-// Makes a pile over zeroed images, plays the commands on it, and answers the next pile.
+// Makes a pile over zeroed images, plays the commands on it, and answers the next turn.
 fn play_new_pile<R: BufRead + Drop>(
     rt: &HostRuntime,
     script: &mut Script<R>,
     pile: Pile,
-) -> anyhow::Result<Option<Pile>> {
+) -> anyhow::Result<Option<Turn>> {
     let count = pile.pages.min(MAX_PAGES) as usize;
     let heap = rt.alloc();
     let mut settled = vec![in heap; 0u8; count * RAW_SIZE]?;
@@ -90,7 +99,7 @@ fn play_layers<R: BufRead + Drop>(
     written: &mut [u8],
     marks: &mut [u8],
     layers: Layers,
-) -> anyhow::Result<Option<Pile>> {
+) -> anyhow::Result<Option<Turn>> {
     let disk = Disk::new(settled, written, marks);
     match layers {
         Layers::None => play_single(rt, script, disk),
@@ -109,43 +118,87 @@ fn play_single<R: BufRead + Drop, D: Armed + Drop>(
     rt: &HostRuntime,
     script: &mut Script<R>,
     device: D,
-) -> anyhow::Result<Option<Pile>> {
+) -> anyhow::Result<Option<Turn>> {
     let mut device = device;
-    play_pile(rt, script, &mut device, |_| None)
+    say(rt, Ok(Answer::Count(device.page_count())))?;
+    play_pile(rt, script, Stage::Single, &mut device, |_| None)
 }
 
-// Plays the commands on a pile that is a group device.
+// Plays the commands on a pile that is a group device, and on the stores that stand on it.
 fn play_group<R: BufRead + Drop, G: Armed + GroupDevice + Drop>(
     rt: &HostRuntime,
     script: &mut Script<R>,
     device: G,
-) -> anyhow::Result<Option<Pile>> {
+) -> anyhow::Result<Option<Turn>> {
     let mut device = device;
-    play_pile(rt, script, &mut device, |group| Some(group.discard()))
+    say(rt, Ok(Answer::Count(device.page_count())))?;
+    for _ in 0..MAX_LINES {
+        let turn = play_pile(
+            rt,
+            script,
+            Stage::Group,
+            &mut device,
+            |group| Some(group.discard()),
+        )?;
+        let Some(Turn::Store(rule)) = turn else {
+            return Ok(turn);
+        };
+        let (below, turn) = match rule {
+            Rule::Integers => play_store::<R, G, IntegerKeys>(rt, script, device)?,
+            Rule::Text => play_store::<R, G, TextKeys>(rt, script, device)?,
+        };
+        let Some(Turn::Close) = turn else {
+            return Ok(turn);
+        };
+        device = below;
+    }
+    Ok(None)
+}
+
+// Plays the commands on a store over a pile, and gives the pile back with the turn that ended it.
+fn play_store<R: BufRead + Drop, G: Armed + GroupDevice + Drop, K: KeyRule>(
+    rt: &HostRuntime,
+    script: &mut Script<R>,
+    device: G,
+) -> anyhow::Result<(G, Option<Turn>)> {
+    let heap = rt.alloc();
+    let mut store = Store::<G, K>::new(device);
+    say(rt, Ok(Answer::Done))?;
+    let turn = play_commands(
+        rt,
+        script,
+        Stage::Store,
+        |call| call_store(heap, &mut store, call),
+    )?;
+    if let Some(Turn::Close) = turn {
+        say(rt, Ok(Answer::Done))?;
+    }
+    Ok((store.into_device(), turn))
 }
 
 // Plays the commands on a pile, whose discard is told, if it has one.
 fn play_pile<R: BufRead + Drop, D: Armed, F: Fn(&mut D) -> Option<Result<(), DeviceFault>>>(
     rt: &HostRuntime,
     script: &mut Script<R>,
+    stage: Stage,
     device: &mut D,
     discard: F,
-) -> anyhow::Result<Option<Pile>>
+) -> anyhow::Result<Option<Turn>>
     requires { (f : F) (x : _) → F.pre f x }
 {
-    say(rt, Ok(Answer::Count(device.page_count())))?;
     let heap = rt.alloc();
     play_commands(
         rt,
         script,
+        stage,
         |call|
             requires { (f : _) (x : _) → F.pre f x }
-        { make_call(heap, device, &discard, call) },
+        { call_pile(heap, device, &discard, call) },
     )
 }
 
 // Makes a call on a pile.
-fn make_call<D: Armed, F: Fn(&mut D) -> Option<Result<(), DeviceFault>>>(
+fn call_pile<D: Armed, F: Fn(&mut D) -> Option<Result<(), DeviceFault>>>(
     heap: Global,
     device: &mut D,
     discard: &F,
@@ -155,16 +208,51 @@ fn make_call<D: Armed, F: Fn(&mut D) -> Option<Result<(), DeviceFault>>>(
 {
     match call {
         Call::Arm { n, letters, t } => device.arm_disk(n, letters.as_bytes(), t as usize)?,
-        Call::Read { page, len } => return read(heap, device, page, len),
-        Call::Write { page, bytes: word } => {
+        Call::Page(PageCall::Read { page, len }) => return read(heap, device, page, len),
+        Call::Page(PageCall::Write { page, bytes: word }) => {
             let buf = bytes(heap, word)?.ok_or(Wrong::NotBytes)?;
             device.write(page as usize, buf.as_slice())?
         }
-        Call::Sync => device.sync()?,
-        Call::Restart => device.restart()?,
-        Call::Discard => discard(device).ok_or(Wrong::NoGroup)??,
+        Call::Page(PageCall::Sync) => device.sync()?,
+        Call::Page(PageCall::Restart) => device.restart()?,
+        Call::Page(PageCall::Discard) => discard(device).ok_or(Wrong::NoGroup)??,
+        Call::Store(_) => return Err(Denial::Wrong(Wrong::NoStore)),
     }
     Ok(Answer::Done)
+}
+
+// Makes a call on a store.
+fn call_store<G: Armed + GroupDevice, K: KeyRule>(
+    heap: Global,
+    store: &mut Store<G, K>,
+    call: Call<'_>,
+) -> Result<Answer, Denial> {
+    match call {
+        Call::Arm { n, letters, t } => {
+            store
+                .device_mut()
+                .arm_disk(n, letters.as_bytes(), t as usize)?
+        }
+        Call::Page(_) => return Err(Denial::Wrong(Wrong::StoreStands)),
+        Call::Store(StoreCall::Format) => store.format()?,
+        Call::Store(StoreCall::Recover) => store.recover()?,
+        Call::Store(StoreCall::Get { key, len }) => return get(heap, store, key, len),
+    }
+    Ok(Answer::Done)
+}
+
+// Looks a key up with a buffer of `len` bytes.
+fn get<G: GroupDevice, K: KeyRule>(
+    heap: Global,
+    store: &mut Store<G, K>,
+    key: &str,
+    len: u64,
+) -> Result<Answer, Denial> {
+    let key = bytes(heap, key)?.ok_or(Wrong::NotBytes)?;
+    let mut buf = vec![in heap; 0u8; len.min(MAX_BUFFER) as usize]?;
+    let found = store.get(key.as_slice(), buf.as_mut_slice())?;
+    buf.truncate(found.length);
+    Ok(Answer::Got(found, buf))
 }
 
 // Reads a page into a buffer of `len` bytes.
