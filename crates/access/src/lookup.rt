@@ -17,7 +17,7 @@ use keys::KeyRule;
 use pages::read_page;
 use tree::Class;
 
-/// What is told of a record: the letter of its class, as a byte, its last day, and the length of its value.
+/// What is told of a record: the letter of its class, as the byte that a get answers, its last day, and the length of its value.
 #[derive(Clone, Copy, Debug, PartialEq, Eq)]
 pub struct Found {
     pub letter: u8,

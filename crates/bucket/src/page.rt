@@ -16,9 +16,7 @@ use pages::Record;
 fn empty_bucket(bits: u8) -> Page
     ensures { BucketIs result bits [] }
 {
-    let mut page = layout::empty_page();
-    let _ = layout::extend(&mut page, &[bits]);
-    page
+    pages::bucket_page(bits, &[], &[]).unwrap()
 }
 
 impl<'a> KeyChange<'a> {
@@ -29,6 +27,7 @@ impl<'a> KeyChange<'a> {
         let mut page = empty_bucket(bits);
         for (_, record) in pages::Records::new(self.records) {
             if self.is_kept::<K>(record, bits as u32, prefix) {
+                // of a bucket's records none is refused: they had room in one page
                 let _ = pages::add_record(&mut page, record);
             }
         }

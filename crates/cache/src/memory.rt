@@ -5,7 +5,7 @@ ghost use Rattle.cache.specs.Slots.{At, Absent};
 ghost use Rattle.cache.specs.Keeping.{up, table_of, Fresh, Heard, Noted, Revived, Forgot};
 
 use crate::table::Table;
-use device::{DeviceFault, PAGE_SIZE};
+use device::{DeviceFault, Page};
 
 /// The pages that a cache keeps while it runs; there is no table while it is down.
 #[derive(Drop)]
@@ -39,7 +39,7 @@ impl Memory {
     }
 
     /// The bytes of a page that is kept.
-    pub(crate) fn get(&self, page: usize) -> Option<&[u8; PAGE_SIZE]>
+    pub(crate) fn get(&self, page: usize) -> Option<&Page>
         ensures { MatchOption result (Absent (table_of self.now).slots.items page) (λ b. (i : ℕ) × At (table_of self.now).slots.items i page b.now) }
     {
         self.table.as_ref()?.get(page)

@@ -4,7 +4,7 @@ ghost use Rattle.std.specs.List.{position};
 ghost use Rattle.cache.specs.Slots.{keeps_page, At, Absent, Empty, Keeps};
 
 use arrayvec::ArrayVec;
-use device::PAGE_SIZE;
+use device::{PAGE_SIZE, Page};
 
 /// How many pages are kept.
 const SLOTS: usize = 8;
@@ -13,7 +13,7 @@ const SLOTS: usize = 8;
 #[derive(Clone, Copy, Default)]
 pub(crate) struct Kept {
     page: usize,
-    bytes: [u8; PAGE_SIZE],
+    bytes: Page,
 }
 
 /// The slots in use, and the one that is given up next.
@@ -77,7 +77,7 @@ impl Table {
     }
 
     /// The bytes of the page, if it is kept.
-    pub(crate) fn get(&self, page: usize) -> Option<&[u8; PAGE_SIZE]>
+    pub(crate) fn get(&self, page: usize) -> Option<&Page>
         ensures { MatchOption result (Absent self.now.slots.items page) (λ b. (i : ℕ) × At self.now.slots.items i page b.now) }
     {
         let i = self.find(page)?;

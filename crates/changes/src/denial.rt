@@ -2,7 +2,7 @@
 use pages::Condition;
 
 /// Why a change is not made.
-#[derive(Clone, Copy)]
+#[derive(Clone, Copy, Debug, PartialEq, Eq)]
 pub enum Denial {
     /// A delete of a key that the map does not have.
     KeyAbsent,

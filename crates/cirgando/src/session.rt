@@ -117,9 +117,8 @@ fn play_layers<R: BufRead + Drop>(
 fn play_single<R: BufRead + Drop, D: Armed + Drop>(
     rt: &HostRuntime,
     script: &mut Script<R>,
-    device: D,
+    mut device: D,
 ) -> anyhow::Result<Option<Turn>> {
-    let mut device = device;
     say(rt, Ok(Answer::Count(device.page_count())))?;
     play_pile(rt, script, Stage::Single, &mut device, |_| None)
 }
@@ -128,9 +127,8 @@ fn play_single<R: BufRead + Drop, D: Armed + Drop>(
 fn play_group<R: BufRead + Drop, G: Armed + GroupDevice + Drop>(
     rt: &HostRuntime,
     script: &mut Script<R>,
-    device: G,
+    mut device: G,
 ) -> anyhow::Result<Option<Turn>> {
-    let mut device = device;
     say(rt, Ok(Answer::Count(device.page_count())))?;
     for _ in 0..MAX_LINES {
         let turn = play_pile(

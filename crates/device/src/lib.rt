@@ -31,7 +31,7 @@ pub enum DeviceFault {
 }
 
 impl DeviceFault {
-    /// The number by which a refusal is known.
+    /// The number by which a refusal is known. A `u8::from` would not say what its number is.
     pub fn number(self) -> u8
         ensures { result ≡ number self }
     {

@@ -59,7 +59,7 @@ impl Directory {
     {
         let shift = depth - self.depth;
         self.depth = depth;
-        // An entry takes what another one has, from the last to the first: no iterator lends both.
+        // In place, from the last to the first: an entry takes what another one has, and no iterator lends both.
         for i in (0..self.used()).rev() {
             self.entries[i] = self.entries[i >> shift];
         }
@@ -81,6 +81,8 @@ impl Directory {
         (first..first + limit).find(|page| !self.is_named(*page))
     }
 }
+
+// These take the entries alone, since no part of an array is lent while a struct with an invariant holds it.
 
 /// Lets each of the used entries of a directory of `depth` bits that begins with `prefix`, of `bits` bits, name `page`.
 fn assign_used(entries: &mut [u16; 256], depth: u8, bits: u8, prefix: u32, page: u16)
@@ -112,7 +114,7 @@ pub(crate) fn halve(entries: &mut [u16; 256], pairs: usize)
     ensures used { (i : ℕ) → i < pairs → at entries.new i ≡ at entries.old (2 * i) }
     ensures rest { (i : ℕ) → pairs ≤ i → at entries.new i ≡ at entries.old i }
 {
-    // An entry takes what another one has: no iterator lends both.
+    // In place: an entry takes what another one has, and no iterator lends both.
     for pair in 0..pairs {
         entries[pair] = entries[2 * pair];
     }

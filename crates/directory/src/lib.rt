@@ -1,7 +1,7 @@
 //! The entries of a store's directory, and what a change does to them.
 #![tactic(auto)]
 
-ghost use Rattle.std.specs.Prelude.{◌≡◌, ℕ, ◌≤◌, IsErr, MatchBool, MatchResult};
+ghost use Rattle.std.specs.Prelude.{◌≡◌, ℕ, ◌≤◌, IsErr, OnErr, MatchBool, MatchResult};
 ghost use Rattle.directory.specs.Names.{at};
 ghost use Rattle.directory.specs.Laws.{PagesTaken};
 ghost use Rattle.directory.specs.Changes.{MergeFits, Merged, Merging, NarrowedTo, Narrowest, Split, SplitFits, SplitTo, Splitting, TooFew, WidenedTo};
@@ -15,16 +15,20 @@ pub use entries::Directory;
 pub struct TooFewPages;
 
 impl Directory {
-    /// After the bucket of `hash`, of `bits` bits, was split down to `target` bits.
+    /// After the bucket of `hash`, of `bits` bits, was split down to `target` bits; no change where there are not enough free pages.
     pub fn split(&mut self, limit: u16, hash: u32, bits: u8, target: u8) -> Result<(), TooFewPages>
         ensures split { (d : ℕ → ℕ) → Splitting self.old.depth limit hash bits target (at self.old.entries) d → MatchResult result (λ _. Split self.old.depth self.new.depth limit hash bits target (at self.old.entries) d (at self.new.entries)) (λ _. TooFew self.old.depth limit bits target (at self.old.entries)) }
-        ensures unfit { (SplitFits self.old.depth limit bits target → ⊥) → IsErr result × (self.new ≡ self.old) }
+        ensures unfit { (SplitFits self.old.depth limit bits target → ⊥) → IsErr result }
+        ensures kept { OnErr result (self.new ≡ self.old) }
     {
         if !self.split_fits(limit, bits, target) {
             return Err(TooFewPages);
         }
-        self.widen(self.depth.max(target));
-        self.split_path(limit, hash, bits, target)
+        let mut after = *self;
+        after.widen(self.depth.max(target));
+        after.split_path(limit, hash, bits, target)?;
+        *self = after;
+        Ok(())
     }
 
     /// Whether the numbers of a split are in range.

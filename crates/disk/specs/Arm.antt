@@ -32,6 +32,7 @@ all_letters (x ∷ xs) = is_letter x && all_letters xs
 unfoldable pub stated : List ℕ → ℕ → Bool
 stated ls t = (nat_le 1 (length ls) && nat_le (length ls) 8) && (all_letters ls && (nat_le 1 t && nat_le t 255))
 
+-- the bytes that stand for letters
 abbrev pub bytes_of : List Letter → List ℕ
 bytes_of = map byte_of
 

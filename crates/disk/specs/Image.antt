@@ -10,6 +10,7 @@ use Rattle.disk.specs.Raw.{raw, decode, chosen}
 unfoldable pub count_of : List ℕ → List ℕ → List ℕ → ℕ
 count_of s w k = min (min (length s / 256) (length w / 256)) (min (length k) 131072)
 
+-- how many pages the images of a disk have
 abbrev pub pages : Images → ℕ
 pages m = count_of m.settled.now m.written.now m.marks.now
 

@@ -14,7 +14,7 @@ pub enum ArmFault {
 impl ArmFault {
     ghost use Rattle.disk.specs.Arm.{arm_number};
 
-    /// The number by which a refusal is known.
+    /// The number by which a refusal is known. A `u8::from` would not say what its number is.
     pub fn number(self) -> u8
         ensures { result ≡ arm_number self }
     {
@@ -56,7 +56,7 @@ impl TryFrom<u8> for Letter {
 /// What a disk is armed with.
 #[derive(Drop)]
 pub(crate) struct Arming {
-    /// The counted calls until power is lost, the one that loses it included; 0 for never, as it is stated.
+    /// The counted calls until power is lost, the one that loses it included; 0 for never: such an arming is accepted, and holds its letters.
     pub(crate) left: u32,
     pub(crate) letters: ArrayVec<Letter, 8>,
     /// How many bytes of the new page a torn one begins with.
@@ -85,7 +85,7 @@ impl Arming {
         })
     }
 
-    /// Counts a call; true if power is lost in it.
+    /// Counts a call; true if power is lost in it, as `Option::take_if` asks.
     pub(crate) fn tick(&mut self) -> bool
         ensures { Ticked self.old result self.new }
     {

@@ -14,7 +14,7 @@ use device::PAGE_SIZE;
 /// The most pages that a disk has.
 const MAX_PAGES: usize = 131_072;
 
-/// An image of raw pages as they are settled, one with what was written since, and a mark byte for each page.
+/// An image of raw pages as they are settled, one with what was written since, and a mark byte for each page: three slices, since so the host lends them.
 #[derive(Drop)]
 pub(crate) struct Images<'a> {
     settled: &'a mut [u8],

@@ -222,6 +222,7 @@ impl<D: Device> Device for Journal<D> {
     }
 }
 
+// The same methods serve both traits: only the contracts of the calls differ.
 impl<D: Device> GroupDevice for Journal<D> {
     ghost grouped = { grouping D.Device.meaning };
 

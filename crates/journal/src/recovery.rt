@@ -39,7 +39,7 @@ fn load<D: Device>(below: &mut D, named: &Targets) -> Result<Option<Pending>, De
     Ok(Some(group))
 }
 
-// The targets that the header names; none where it is spoiled.
+// The targets that the header names; none where it is spoiled, or names none, which is one case for a restart.
 fn read_header<D: Device>(below: &mut D, count: usize) -> Result<Targets, DeviceFault>
     ensures agrees { D.Device.agrees below.old → D.Device.agrees below.new }
     ensures makes { D.Device.agrees below.old → (D.Device.meaning below.old).runs ≡ true → Makes D.Device.meaning [] (bare result) below.old below.new }

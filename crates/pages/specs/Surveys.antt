@@ -31,7 +31,7 @@ count_at bs i = (bucket_at bs i).count
 abbrev pub Narrow : List Bucket → ℕ → Type 0
 Narrow bs w = (i : ℕ) → i < 2 ^ w → depth_at bs i ≤ w
 
--- nor records that stand behind a wrong entry
+-- no bucket has more bits than the directory, or records that stand behind a wrong entry
 abbrev pub AllPlaced : List Bucket → ℕ → Type 0
 AllPlaced bs w = (i : ℕ) → i < 2 ^ w → ((bucket_at bs i).placed ≡ true) × (depth_at bs i ≤ w)
 

@@ -77,7 +77,8 @@ pub fn appended(depth: u8, bytes: &[u8], stored: Record<'_>) -> Result<Page, NoR
     Ok(page)
 }
 
-/// A bucket's page without the record of `len` bytes that begins at `start`; none where there are not so many bytes, or the others have no room.
+/// A bucket's page without the record of `len` bytes that begins at `start`; none where there are not so many bytes, or the others have no room: for
+/// two reasons, so that it is no `NoRoom`.
 pub fn removed(depth: u8, bytes: &[u8], start: usize, len: usize) -> Option<Page>
     ensures bytes { MatchOption result ((length bytes.now < start + len) ⊎ (248 + len < length bytes.now)) (λ p. Enveloped p (depth ∷ (take start bytes.now ++ drop (start + len) bytes.now))) }
     ensures records { (before : List Rec) (x : Rec) (after : List Rec) → bytes.now ≡ records (before ++ x ∷ after) → length bytes.now ≤ 248 → start ≡ length (records before) → len ≡ size x → MatchOption result ⊥ (λ p. BucketIs p depth (before ++ after)) }

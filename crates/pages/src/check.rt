@@ -49,7 +49,7 @@ fn check_root<D: GroupDevice, K: KeyRule>(device: &mut D) -> Result<Option<Root>
     Ok(Some(found))
 }
 
-/// The numbers of page 0, and the entries of the directory.
+/// The numbers of page 0, and the entries of the directory, of which the format has 256.
 #[derive(Clone, Copy)]
 pub(crate) struct Layout {
     pub root: Root,
@@ -94,6 +94,7 @@ fn read_directory<D: GroupDevice>(device: &mut D) -> Result<Option<[u16; 256]>, 
     ensures { 5 < (D.Device.meaning device.old).count → Looks D.Device.agrees D.Device.meaning D.GroupDevice.grouped 4 device.old result device.new (λ n f o. MatchOption o (((j : ℕ) → j < 4 → Directory (shows (f (1 + j)))) → ⊥) (λ entries. DirectoriesRead f 4 entries)) }
 {
     let mut pages = [[0u8; PAGE_SIZE]; 4];
+    // by number, which the read is given and at whose place the page goes
     for j in 0..4usize {
         let Some(page) = read_page(device, 1 + j)? else {
             return Ok(None);
@@ -158,6 +159,7 @@ fn read_buckets<D: GroupDevice, K: KeyRule>(
         count: 0,
         placed: false,
     }; 256];
+    // by number, which the read is given and at whose place its answer goes
     for i in 0..layout.used().len() {
         let Some(found) = read_named::<D, K>(device, layout, i)? else {
             return Ok(None);

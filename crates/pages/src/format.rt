@@ -12,6 +12,7 @@ use keys::KeyRule;
 pub fn empty_store_page<K: KeyRule>(limit: u16, i: usize) -> Page
     ensures { result ≡ envelope (empty_body K.KeyRule.rule.kind limit i) }
 {
+    // by the page's number, to which the format gives its meaning
     match i {
         0 => root::root_page(Root {
             kind: K::kind(),

@@ -26,7 +26,7 @@ pub fn next_record<'a>(bytes: &'a [u8]) -> Option<(Record<'a>, &'a [u8])>
     let [l1, l0, class, d3, d2, d1, d0, k, rest @ ..] = bytes else {
         return None;
     };
-    let whole = usize::from(*l1) * 256 + usize::from(*l0);
+    let whole = usize::from(u16::from_be_bytes([*l1, *l0]));
     if !has_record(bytes.len(), whole, *k) {
         return None;
     }

@@ -36,7 +36,7 @@ pub enum Condition {
 }
 
 impl Condition {
-    /// The number by which a condition is known.
+    /// The number by which a condition is known. A `u8::from` would not say what its number is.
     pub fn number(self) -> u8
         ensures { result ≡ number_of self }
     {

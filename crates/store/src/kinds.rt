@@ -35,7 +35,7 @@ pub enum StoreFault {
 }
 
 impl StoreFault {
-    /// The number by which a refusal is known.
+    /// The number by which a refusal is known. A `u8::from` would not say what its number is.
     pub fn number(self) -> u8
         ensures { result ≡ refusal self }
     {

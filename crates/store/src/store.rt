@@ -39,6 +39,7 @@ fn most_buckets(pages: usize) -> u16
     pages.saturating_sub(5).min(MOST_BUCKETS) as u16
 }
 
+// A clause names the key rule and the three ghost members of the device each time: no struct could hold them.
 impl<D: GroupDevice, K: KeyRule> Store<D, K> {
     /// A store over a device: stopped, until a format or a recover is accepted.
     pub fn new(device: D) -> Store<D, K>
