@@ -25,10 +25,8 @@ pub(crate) enum Denial {
     Arm(ArmFault),
     /// A device refused a call.
     Device(DeviceFault),
-    /// A store refused a call.
+    /// A store refused a call, or a key is not valid under its rule.
     Store(StoreFault),
-    /// A key is not valid under its rule.
-    KeyNotValid,
     /// The line is no command that can be played.
     Wrong(Wrong),
     /// There was no memory for it, which ends the program.
@@ -99,7 +97,6 @@ impl fmt::Display for Denial {
                     None => Ok(()),
                 }
             }
-            Denial::KeyNotValid => write!(f, "refused 3"),
             Denial::Wrong(wrong) => write!(f, "error: {wrong}"),
             Denial::NoMemory(error) => write!(f, "error: {error}"),
         }

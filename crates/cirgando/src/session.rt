@@ -13,7 +13,7 @@ use keys::{IntegerKeys, KeyRule, TextKeys};
 use pile::Armed;
 use std::alloc::Global;
 use std::io::BufRead;
-use store::Store;
+use store::{Store, StoreFault};
 
 /// The most pages of a disk, and the bytes of its raw pages.
 const MAX_PAGES: u64 = 131_072;
@@ -271,7 +271,7 @@ fn hash(heap: Global, key: Key<'_>) -> Result<Answer, Denial> {
 
 fn hash_by<K: KeyRule>(key: &[u8]) -> Result<Answer, Denial> {
     if !K::is_valid(key) {
-        return Err(Denial::KeyNotValid);
+        return Err(StoreFault::KeyNotValid.into());
     }
     Ok(Answer::Hash(K::hash(key)))
 }

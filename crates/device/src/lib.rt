@@ -84,18 +84,23 @@ pub trait Device {
     // what is then known of its meaning: a proof, which each implementation gives
     ghost sound: { (d : Self) → agrees d → Sound (meaning d) };
 
+    /// How many pages it has.
     fn page_count(&self) -> usize
         ensures { result ≡ (meaning self.now).count };
 
+    /// Fills `buf` with a page.
     fn read(&mut self, page: usize, buf: &mut [u8]) -> Result<(), DeviceFault>
         ensures does { Does agrees meaning (reads page buf.old buf.new) self.old result self.new };
 
+    /// Writes a page. A cut may undo it, or leave it torn, until a sync is done.
     fn write(&mut self, page: usize, buf: &[u8]) -> Result<(), DeviceFault>
         ensures does { Does agrees meaning (writes page buf.now) self.old result self.new };
 
+    /// Makes what was written last through a cut.
     fn sync(&mut self) -> Result<(), DeviceFault>
         ensures does { Does agrees meaning syncs self.old result self.new };
 
+    /// Begins again, after a cut or without one: what a cut may leave is settled.
     fn restart(&mut self) -> Result<(), DeviceFault>
         ensures does { Does agrees meaning restarts self.old result self.new };
 }
@@ -106,18 +111,23 @@ pub trait GroupDevice: Device {
     // the base and the ends at this moment
     ghost grouped: { Self → Grouped };
 
+    /// Fills `buf` with a page.
     fn read(&mut self, page: usize, buf: &mut [u8]) -> Result<(), DeviceFault>
         ensures does { GroupDoes Self.Device.agrees Self.Device.meaning grouped (reads page buf.old buf.new) self.old result self.new };
 
+    /// Writes a page, which a cut undoes until a sync is done.
     fn write(&mut self, page: usize, buf: &[u8]) -> Result<(), DeviceFault>
         ensures does { GroupDoes Self.Device.agrees Self.Device.meaning grouped (writes page buf.now) self.old result self.new };
 
+    /// Makes all that was written last as a whole: a cut leaves all of it, or nothing.
     fn sync(&mut self) -> Result<(), DeviceFault>
         ensures does { GroupDoes Self.Device.agrees Self.Device.meaning grouped syncs self.old result self.new };
 
+    /// Begins again, after a cut or without one, on one whole image.
     fn restart(&mut self) -> Result<(), DeviceFault>
         ensures does { GroupDoes Self.Device.agrees Self.Device.meaning grouped restarts self.old result self.new };
 
+    /// Takes back what was written since the last sync or restart.
     fn discard(&mut self) -> Result<(), DeviceFault>
         ensures does { GroupDoes Self.Device.agrees Self.Device.meaning grouped discards self.old result self.new };
 }

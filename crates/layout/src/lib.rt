@@ -43,6 +43,7 @@ pub fn body_of(page: &[u8]) -> Option<&[u8]>
 }
 
 /// A page with no body.
+#[tactic(auto, unfolding(crate::specs::Envelope::envelope))]
 pub fn empty_page() -> Page
     ensures { result ≡ envelope [] }
 {

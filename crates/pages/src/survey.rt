@@ -82,11 +82,10 @@ impl<'a> Survey<'a> {
             return true;
         }
         let shift = self.root.depth - a.depth;
-        let p = i >> shift;
-        if j >> shift != p + 1 - 2 * (p % 2) {
+        if (j >> shift) as u32 != tree::sibling((i >> shift) as u32) {
             return true;
         }
-        u32::from(a.bytes) + u32::from(b.bytes) > 248
+        usize::from(a.bytes) + usize::from(b.bytes) > tree::bucket_room()
     }
 
     /// Whether the page of entry i would fit together with no sibling.
