@@ -1,6 +1,6 @@
 -- A cache over a group device: base and ends are those below.
 use Rattle.std.proofs.Common.{◌≡◌, Bool, true, false, ◌||◌, Ok, Err, MatchBool, ◌∙◌}
-use Rattle.std.proofs.lemmas.Bool.{both_ways, eq-eqb, cond-true}
+use Rattle.std.proofs.lemmas.Bool.{both_ways, eq-eqb, cond-true, MatchBool-at_true}
 use Rattle.device.specs.declared.DeviceFault.{DeviceFault}
 use Rattle.device.specs.Meaning.{Meaning, Grouped, SoundGroup}
 use Rattle.device.specs.Numbers.{number}
@@ -9,7 +9,7 @@ use Rattle.device.specs.Calls.{Answer, Call, reads, writes, syncs, restarts, dis
 use Rattle.device.proofs.Whens.{when_true}
 use Rattle.cache.specs.declared.memory.Memory.{Memory}
 use Rattle.cache.specs.Keeping.{up, under, Agrees, Forgot, After}
-use Rattle.cache.proofs.Layer.{when_yes, under_lost, under_ran, step_under, agrees_after, empty_agrees}
+use Rattle.cache.proofs.Layer.{under_lost, under_ran, step_under, agrees_after, empty_agrees}
 
 -- a sound group above is sound below, where both run, and the other way round
 group_down : (up : Bool) (m : Meaning) (g : Grouped) → up ≡ true → SoundGroup (under up m) g → SoundGroup m g
@@ -28,7 +28,7 @@ sound_under discards up up' m n g h t b s = λ x. group_up up' n h b (s (group_d
 
 settles_under : (up : Bool) (m : Meaning) (g h : Grouped) (r : Answer) → up ≡ true → m.runs ≡ true → Settles m g r h → Settles (under up m) g r h
 settles_under up m g h (Ok _) t b l = l
-settles_under up m g h (Err e) t b l = when_true up _ _ t (when_yes m.runs _ _ b l)
+settles_under up m g h (Err e) t b l = when_true up _ _ t (MatchBool-at_true _ _ b l)
 
 restores_under : (up up' : Bool) (m n : Meaning) (g h : Grouped) (r : Answer) → Restores m g r n h → Restores (under up m) g r (under up' n) h
 restores_under up up' m n g h (Ok _) l = record { one = l.one; base = l.base }

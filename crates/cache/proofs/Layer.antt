@@ -2,7 +2,7 @@
 use Rattle.std.proofs.Common.{◌≡◌, ℕ, ◌<◌, ◌≤◌, Bool, true, false, cond, ◌||◌, ◌≢◌, ◌⊎◌, List, [], length, Option, is_some, Some, None, Ok, Err, MatchBool, sym, refl, ap, ◌∙◌, subst, inr, ⊎_elim, arith}
 use Rattle.std.specs.Option.{unwrap_or}
 use Rattle.std.proofs.lemmas.Option.{slice_get_within}
-use Rattle.std.proofs.lemmas.Bool.{both_ways, eq-eqb}
+use Rattle.std.proofs.lemmas.Bool.{both_ways, eq-eqb, MatchBool-at_true}
 use Rattle.device.specs.declared.DeviceFault.{DeviceFault}
 use Rattle.device.specs.declared.DeviceFault.TheVariants.{NoSuchPage, BufferSize, PowerLost, PageSpoiled, TooManyWaiting}
 use Rattle.device.specs.Meaning.{bytes, Meaning, Alike}
@@ -17,12 +17,9 @@ use Rattle.cache.specs.Keeping.{up, table_of, under, Faithful, Fresh, Agrees, He
 use Rattle.cache.proofs.SlotLaws.{at_put}
 use Rattle.cache.proofs.OrderLaws.{placed_joined}
 
-pub when_yes : (b : Bool) (A B : Type 0) → b ≡ true → MatchBool b A B → A
-when_yes b A B e a = subst (λ (t : Bool). MatchBool t A B) e a
-
 -- an answer 11, which leaves the cache fresh
 heard_fresh : (s s' : Memory) (e : DeviceFault) → number e ≡ 11 → Heard s (Err e) s' → Fresh s'
-heard_fresh s s' e n a = when_yes (lost (Err e)) _ _ (eq-eqb (number e) 11 n) a
+heard_fresh s s' e n a = MatchBool-at_true _ _ (eq-eqb (number e) 11 n) a
 
 -- the parts of a promise below, above
 module _ (up up' : Bool) (m n : Meaning) where

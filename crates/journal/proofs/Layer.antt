@@ -1,6 +1,6 @@
 -- The calls of a journal, for any device below it by its ghost members.
 use Rattle.std.proofs.Common.{◌≡◌, ℕ, ◌+◌, ◌<◌, Bool, true, false, ◌||◌, eqb, ltb, List, [], ◌++◌, length, Ok, Err, MatchBool, sym, refl, ap, subst, inl, inr, ⊎_elim, arith}
-use Rattle.std.proofs.lemmas.Bool.{cases_Bool, lt-ltb}
+use Rattle.std.proofs.lemmas.Bool.{cases_Bool, lt-ltb, MatchBool-at_true, MatchBool-at_false}
 use Rattle.device.specs.declared.DeviceFault.{DeviceFault}
 use Rattle.device.specs.declared.DeviceFault.TheVariants.{PowerLost, TooManyWaiting}
 use Rattle.device.specs.Meaning.{State, has, Meaning, Sound, SoundGroup}
@@ -24,7 +24,7 @@ use Rattle.journal.specs.Order.{Sending, Restoring, Restarting}
 use Rattle.journal.specs.Steps.{CommitReady, Committed}
 use Rattle.journal.specs.Recovery.{Recovered}
 use Rattle.journal.proofs.Fitting.{fit_page}
-use Rattle.journal.proofs.Going.{Went, when_yes, when_no}
+use Rattle.journal.proofs.Going.{Went}
 use Rattle.journal.proofs.Helds.{Held, NotHeld}
 use Rattle.journal.proofs.Groups.{sound_group, went_discard, went_held, went_put, went_full}
 use Rattle.journal.proofs.Reading.{read_home, read_count, agrees_down}
@@ -48,9 +48,9 @@ module _ {X : Type 0} (meaning : X → Meaning) (d e : X) (r : Answer) where
 
   restarting_calls : Restarting meaning d r e → DeviceCalls meaning (lost r) d e
   restarting_calls (Ok u, (x, s, w)) = ⊎_elim
-      (λ y. let z = when_yes (eqb (above (meaning x).count) 0) _ _ y w in
+      (λ y. let z = MatchBool-at_true _ _ y w in
       subst (λ (v : X). DeviceCalls meaning (lost r) d v) (sym z.1) (subst (λ (v : Answer). DeviceCalls meaning (lost v) d x) (sym z.0) (one restarts (Ok u) x refl s)))
-      (λ n. joined (one restarts (Ok u) x refl s) (restoring_calls x (when_no (eqb (above (meaning x).count) 0) _ _ n w)))
+      (λ n. joined (one restarts (Ok u) x refl s) (restoring_calls x (MatchBool-at_false _ _ n w)))
       (cases_Bool (eqb (above (meaning x).count) 0))
   restarting_calls (Err f, (x, s, w)) = subst (λ (v : X). DeviceCalls meaning (lost r) d v) (sym w.1) (subst (λ (v : Answer). DeviceCalls meaning (lost v) d x) (sym w.0) (one restarts (Err f) x refl s))
 

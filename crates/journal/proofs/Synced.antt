@@ -1,6 +1,6 @@
 -- A sync of the journal, from what its steps leave below.
-use Rattle.std.proofs.Common.{◌≡◌, ℕ, suc, ◌+◌, ◌-◌, ◌<◌, Bool, true, false, eqb, List, [], ◌∷◌, length, get_or, Ok, Err, MatchBool, sym, refl, ap, ◌∙◌, inl, inr, ⊎_elim, arith}
-use Rattle.std.proofs.lemmas.Bool.{both_ways, eq-eqb}
+use Rattle.std.proofs.Common.{◌≡◌, ℕ, suc, ◌+◌, ◌-◌, ◌<◌, Bool, true, false, List, [], ◌∷◌, length, get_or, Ok, Err, MatchBool, sym, refl, ap, ◌∙◌, inl, inr, ⊎_elim, arith}
+use Rattle.std.proofs.lemmas.Bool.{both_ways, eq-eqb, MatchBool-at_true}
 use Rattle.device.specs.Meaning.{State, bytes, Meaning, Sound}
 use Rattle.device.specs.Numbers.{number}
 use Rattle.device.specs.Calls.{Answer, syncs, lost}
@@ -13,7 +13,7 @@ use Rattle.journal.specs.Over.{Agrees}
 use Rattle.journal.specs.Steps.{bodies, Reads, Settled, CommitReady, Committed}
 use Rattle.journal.proofs.Crash.{bodies_ends}
 use Rattle.journal.proofs.Fitting.{fit_page, fit_size, apart_pages}
-use Rattle.journal.proofs.Going.{Went, when_yes}
+use Rattle.journal.proofs.Going.{Went}
 use Rattle.journal.proofs.Groups.{base_end}
 use Rattle.journal.proofs.Reading.{agrees_down}
 
@@ -77,7 +77,7 @@ module _ (T : State → List ℕ) (up : Bool) (es : List Entry) (m : Meaning) (s
         λ i h. new_home d i h,
       );
     }
-    went_sync up' (Err f) u d = let v : up' ≡ false = when_yes (eqb (number f) 11) _ _ (eq-eqb (number f) 11 d.0) u in record {
+    went_sync up' (Err f) u d = let v : up' ≡ false = MatchBool-at_true _ _ (eq-eqb (number f) 11 d.0) u in record {
       agrees = agrees_down T up' [] n v refl;
       means = (
         (
