@@ -13,6 +13,7 @@ use Rattle.device.specs.Meaning.{bytes, has}
 use Rattle.journal.specs.declared.entries.Entry.{Entry}
 use Rattle.journal.specs.Waiting.{pages}
 use Rattle.journal.specs.Header.{two_bytes, pairs, Numbers, header, once, names, named, targets}
+use Rattle.journal.proofs.Targets.{pairs_back}
 
 -- what `contains` answers
 pub has_any : (p : ℕ) (xs : List ℕ) → list_any (λ y. eqb y p) xs ≡ has p xs
@@ -44,11 +45,6 @@ bytes_back (suc k) (h ∷ (l ∷ rest)) e s =
     let b : (h * 256 + l) % 256 ≡ l = omega arith in
     let r = bytes_back k rest (omega arith) (λ i. s (suc (suc i))) in
     λ i. a i ∷ b i ∷ r i
-
--- numbers are those that their bytes make
-numbers_back : (ts : List ℕ) → pairs (two_bytes ts) ≡ ts
-numbers_back [] = refl
-numbers_back (t ∷ ts) = let a : t / 256 * 256 + t % 256 ≡ t = omega arith in let r = numbers_back ts in λ i. a i ∷ r i
 
 pub two_length : (ts : List ℕ) → length (two_bytes ts) ≡ 2 * length ts
 two_length [] = refl
@@ -95,7 +91,7 @@ module _ (n : ℕ) (page : List ℕ) where
 
     module _ (ts : List ℕ) (k : Numbers body ts) where
       its : named n page ts ≡ targets n (bytes page)
-      its = ap (named n page) (sym (ap pairs (sym k.made) ∙ numbers_back ts)) ∙ as_named
+      its = ap (named n page) (sym (ap pairs (sym k.made) ∙ pairs_back ts)) ∙ as_named
 
       pub not_once : once n ts ≡ false → [] ≡ targets n (bytes page)
       not_once e = refused ts (λ y. false≢true (sym e ∙ (tests ts y).1)) ∙ its

@@ -10,7 +10,8 @@ use Rattle.journal.specs.Header.{two_bytes, pairs, header, all_below, distinct, 
 use Rattle.journal.specs.Sound.{pages_length}
 use Rattle.journal.specs.Steps.{Reads}
 
-pairs_back : (ts : List ℕ) → pairs (two_bytes ts) ≡ ts
+-- numbers are those that their bytes make
+pub pairs_back : (ts : List ℕ) → pairs (two_bytes ts) ≡ ts
 pairs_back [] = refl
 pairs_back (t ∷ ts) = let a : t / 256 * 256 + t % 256 ≡ t = omega arith in let b = pairs_back ts in cc
 
