@@ -14,8 +14,8 @@ use Rattle.tree.proofs.Sets.{in_left, in_right, in_append}
 use Rattle.tree.proofs.Mapping.{all_of}
 use Rattle.tree.proofs.Changes.{made_rest, made_sound}
 use Rattle.tree.proofs.Stands.{tells}
+use Rattle.pages.proofs.Readings.{apart_append}
 use Rattle.bucket.specs.Laws.{hash_of, BesideKept, SiblingsJoined, MergedUp}
-use Rattle.bucket.proofs.Leaving.{apart_append}
 
 module _ (R : Rule) (law : Lawful R) where
   pub beside_kept : BesideKept R

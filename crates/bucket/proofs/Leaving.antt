@@ -1,5 +1,5 @@
 -- What a change leaves in the buckets of its key.
-use Rattle.std.proofs.Common.{◌≡◌, ℕ, zero, suc, ◌+◌, ◌<◌, ◌≤◌, true, false, not, ◌&&◌, eqb, leb, List, [], ◌∷◌, ◌++◌, length, Some, sum_by, sym, refl, ap, ◌∙◌, subst, inl, inr, ⊎_elim, arith, lit≤}
+use Rattle.std.proofs.Common.{◌≡◌, ℕ, zero, suc, ◌+◌, ◌<◌, ◌≤◌, true, false, not, eqb, List, ◌++◌, Some, sum_by, sym, refl, ap, ◌∙◌, subst, inl, inr, ⊎_elim, arith, lit≤}
 use Rattle.std.specs.List.{AllByRecursion}
 use Rattle.std.proofs.ByRecursion.{all_kept_by, All-append, All-weaker}
 use Rattle.std.proofs.lemmas.List.Sums.{sum_by-append}
@@ -7,18 +7,18 @@ use Rattle.std.proofs.lemmas.Bool.{eq-eqb, eqb-true, and_parts, and_from, not-tr
 use Rattle.keys.specs.Rule.{Rule, Lawful}
 use Rattle.tree.specs.Prefix.{pre, sib}
 use Rattle.tree.specs.Members.{In}
-use Rattle.tree.specs.Maps.{Rec, size, Apart, Sound, Change, Put, Delete, key_of, added, new_of, made}
+use Rattle.tree.specs.Maps.{Rec, size, Sound, Change, Put, Delete, key_of, added, new_of, made}
 use Rattle.tree.specs.Loads.{hashed, loads}
-use Rattle.tree.specs.Classes.{row_at}
 use Rattle.tree.specs.Trees.{Falls}
 use Rattle.tree.specs.Images.{Begun}
 use Rattle.tree.proofs.Prefixes.{pre_pre, pre_step, pre_up, pre_below}
 use Rattle.tree.proofs.Growth.{sib_other, sib_parent, sib_only}
 use Rattle.tree.proofs.Sets.{in_left, in_right, in_append}
-use Rattle.tree.proofs.Mapping.{in_kept, kept_in, all_of, all_in, apart_kept}
+use Rattle.tree.proofs.Mapping.{in_kept, kept_in, all_of, apart_kept}
 use Rattle.tree.proofs.Changes.{in_made, made_new, made_old, new_key, made_sound}
 use Rattle.tree.proofs.Stands.{tells, stops}
-use Rattle.pages.specs.Records.{within, Fine}
+use Rattle.pages.specs.Records.{Fine}
+use Rattle.pages.proofs.Readings.{fine_valid, apart_append}
 use Rattle.bucket.specs.Sifts.{stays, sift, sifted, own_load, FirstRoom}
 use Rattle.bucket.specs.Laws.{hash_of, Before, OwnFound, SiblingLeft, OwnLeft, StillApart, StillFine, EntrySplit, TargetFalls}
 
@@ -27,16 +27,9 @@ pub sibling_begins : (w x j l : ℕ) → l ≤ j → j < w → pre (suc j) (sib 
 sibling_begins w x j l h k =
     pre_up j (sib (pre w x (suc j))) l h ∙ ap (λ q. pre j q l) (sib_parent (pre w x (suc j)) ∙ sym (pre_step w x j k)) ∙ pre_pre w x j l h (omega arith)
 
--- ---- lists of records, no two keys the same
+-- ---- what stays
 
 module _ (R : Rule) where
-  pub apart_append : (xs ys : List Rec) → Apart R xs → Apart R ys → ((x y : Rec) → In x xs → In y ys → R.same x.key y.key ≡ false) → Apart R (xs ++ ys)
-  apart_append [] ys a b f = b
-  apart_append (x ∷ xs) ys a b f =
-      (All-append _ xs ys a.0 (all_in (λ y. R.same x.key y.key ≡ false) ys (λ y i. f x y (inl refl) i)), apart_append xs ys a.1 b (λ z y i j. f z y (inr i) j))
-
-  -- ---- what stays
-
   in_sift : (k : List ℕ) (n p : ℕ) (rs : List Rec) (x : Rec) → In x (sift R k n p rs) → In x rs × (pre 32 (hashed R x) n ≡ p) × (R.same k x.key ≡ false)
   in_sift k n p rs x i =
       let a = in_kept (stays R k n p) x rs i in
@@ -53,10 +46,6 @@ module _ (R : Rule) where
 
   pub sift_sound : (k : List ℕ) (n p : ℕ) (rs : List Rec) → Sound R rs → Sound R (sift R k n p rs)
   sift_sound k n p rs s = record { valid = sift_all _ k n p rs s.valid; apart = apart_kept R (stays R k n p) rs s.apart }
-
-  fine_valid : (x : Rec) → Fine R.valid x → R.valid x.key ≡ true
-  fine_valid x f =
-      (and_parts (leb x.last 199999) (R.valid x.key) (and_parts (within (row_at x.class) (length x.value)) (leb x.last 199999 && R.valid x.key) f).1).1
 
   pub still_fine : StillFine R
   still_fine c rs n p a =
@@ -105,7 +94,7 @@ module _ (R : Rule) where
           s,
           record {
             valid = All-append _ (sift R (key_of c) n p rs) (new_of c) s.valid t.valid;
-            apart = apart_append (sift R (key_of c) n p rs) (new_of c) s.apart t.apart (λ x y i j.
+            apart = apart_append R (sift R (key_of c) n p rs) (new_of c) s.apart t.apart (λ x y i j.
                 let a = in_sift (key_of c) n p rs x i in
                 let v = all_of (λ r. R.valid r.key ≡ true) x rs b.own.valid a.0 in
                 ap (R.same x.key) (new_key R c y j)
@@ -132,7 +121,7 @@ module _ (R : Rule) where
         record {
           valid = v;
           map = f.map;
-          own = record { valid = All-weaker (Fine R.valid) (λ r. R.valid r.key ≡ true) fine_valid (recs i) (f.fine i h); apart = f.apart i h };
+          own = record { valid = All-weaker (Fine R.valid) (λ r. R.valid r.key ≡ true) (fine_valid R.valid) (recs i) (f.fine i h); apart = f.apart i h };
           begun = subst (λ q. Begun (hashed R) m (d i) q (recs i)) (pre_pre 32 (hash_of R c) x.depth (d i) (f.holds.short i h) k) (f.holds.has i h);
         }
 

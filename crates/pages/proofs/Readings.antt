@@ -1,7 +1,7 @@
 -- An image is read in one way, and what it holds is the tree's.
-use Rattle.std.proofs.Common.{◌≡◌, ℕ, zero, suc, ◌+◌, ◌-◌, ◌*◌, ◌/◌, ◌%◌, ◌^◌, ◌<◌, ◌≤◌, Bool, true, false, cond, ◌&&◌, eqb, leb, ◌⊎◌, List, [], ◌∷◌, ◌++◌, length, sym, refl, ap, ◌∙◌, subst, ap₂, inl, inr, ⊎_elim, arith, pow_mono}
+use Rattle.std.proofs.Common.{◌≡◌, ℕ, zero, suc, ◌+◌, ◌-◌, ◌*◌, ◌/◌, ◌%◌, ◌^◌, ◌<◌, ◌≤◌, Bool, true, false, cond, eqb, leb, ◌⊎◌, List, [], ◌∷◌, ◌++◌, length, sym, refl, ap, ◌∙◌, subst, ap₂, inl, inr, ⊎_elim, arith, pow_mono}
 use Rattle.std.specs.List.{AllByRecursion}
-use Rattle.std.proofs.lemmas.Bool.{cases_lt, cases_Bool, eqb-true, cond-true, cond-false}
+use Rattle.std.proofs.lemmas.Bool.{cases_lt, cases_Bool, eqb-true, cond-true, cond-false, and_parts}
 use Rattle.device.specs.Meaning.{State, Alike}
 use Rattle.tree.specs.Prefix.{pre}
 use Rattle.tree.specs.Trees.{Falls, number, depth}
@@ -97,14 +97,10 @@ module _ (K : Rule) (n : ℕ) (e : ℕ → State) (met : AllMet K n e) (d : ℕ 
 
 -- ---- the map of an image is a map
 
-and_right : (a b : Bool) → (a && b) ≡ true → b ≡ true
-and_right true b e = e
-and_right false b e = let z : ◌≡◌ {A = ℕ} 0 1 = ap (λ (t : Bool). cond t 1 0) e in absurd (omega arith)
+pub fine_valid : (valid : List ℕ → Bool) (x : Rec) → Fine valid x → valid x.key ≡ true
+fine_valid valid x f = (and_parts (leb x.last 199999) (valid x.key) (and_parts (within (row_at x.class) (length x.value)) _ f).1).1
 
-fine_valid : (valid : List ℕ → Bool) (x : Rec) → Fine valid x → valid x.key ≡ true
-fine_valid valid x f = and_right (leb x.last 199999) (valid x.key) (and_right (within (row_at x.class) (length x.value)) _ f)
-
-apart_append : (R : Rule) (xs ys : List Rec) → Apart R xs → Apart R ys → ((x y : Rec) → In x xs → In y ys → R.same x.key y.key ≡ false) → Apart R (xs ++ ys)
+pub apart_append : (R : Rule) (xs ys : List Rec) → Apart R xs → Apart R ys → ((x y : Rec) → In x xs → In y ys → R.same x.key y.key ≡ false) → Apart R (xs ++ ys)
 apart_append R [] ys a b c = b
 apart_append R (x ∷ xs) ys a b c = (
   all_in (λ s. R.same x.key s.key ≡ false) (xs ++ ys)
