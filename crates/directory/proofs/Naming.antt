@@ -1,18 +1,13 @@
 -- What stays a directory: widened, narrowed, with a bucket split in two, with buckets merged.
 use Rattle.std.proofs.Common.{◌≡◌, ℕ, suc, ◌+◌, ◌-◌, ◌*◌, ◌/◌, ◌^◌, ◌<◌, ◌≤◌, eqb, ◌⊎◌, sym, ap, ◌∙◌, subst, inl, inr, ⊎_elim, arith}
 use Rattle.std.proofs.lemmas.Bool.{cases_lt, cases_eq, cond-true, cond-false, eq-eqb, ne_eqb}
-use Rattle.std.proofs.lemmas.Nat.{shl_below}
 use Rattle.tree.specs.Prefix.{pre}
-use Rattle.tree.proofs.Prefixes.{pre_step, pre_pre, pre_below, pre_agree, pre_up, pre_filled}
+use Rattle.tree.proofs.Prefixes.{pre_step, pre_pre, pre_below, pre_agree, pre_up, pre_filled, first_below}
 use Rattle.tree.proofs.Growth.{sib_other, sib_parent, sib_only}
 use Rattle.tree.proofs.Directory.{beside}
 use Rattle.directory.specs.Names.{Names, Free, Differ, assigned, widened, narrowed}
 
--- the first entry of v bits that begins with the entry i of w bits
-pub first_below : (v w i : ℕ) → w ≤ v → i < 2 ^ w → i * 2 ^ (v - w) < 2 ^ v
-first_below v w i k h = let e : w + (v - w) ≡ v = omega arith in subst (λ u. i * 2 ^ (v - w) < 2 ^ u) e (shl_below i w (v - w) h)
-
--- its first n bits
+-- the first n bits of the first entry of v bits that begins with the entry i of w bits
 pub first_begins : (v w i n : ℕ) → n ≤ w → w ≤ v → pre v (i * 2 ^ (v - w)) n ≡ pre w i n
 first_begins v w i n k l = sym (pre_pre v (i * 2 ^ (v - w)) w n k l) ∙ ap (λ u. pre w u n) (pre_filled v i w)
 

@@ -2,10 +2,10 @@
 use Rattle.std.proofs.Common.{◌≡◌, ℕ, zero, suc, ◌+◌, ◌-◌, ◌*◌, ◌/◌, ◌^◌, ◌<◌, ◌≤◌, sym, refl, ap, ◌∙◌, subst, inl, inr, ⊎_elim, mul_assoc, mul_comm, pow-suc, arith}
 use Rattle.std.proofs.lemmas.Bool.{cases_eq}
 use Rattle.tree.specs.Prefix.{pre}
-use Rattle.tree.proofs.Prefixes.{pre_step, pre_below}
+use Rattle.tree.proofs.Prefixes.{pre_step, pre_below, first_below}
 use Rattle.directory.specs.Names.{Names, InRange, Unused, DepthUsed, assigned, narrowed}
 use Rattle.directory.specs.Changes.{NarrowedTo, Narrowest, Merging, Merged}
-use Rattle.directory.proofs.Naming.{first_below, assigned_in, assigned_out, names_at, names_narrowed, names_merged, told_short, pair_deep}
+use Rattle.directory.proofs.Naming.{assigned_in, assigned_out, names_at, names_narrowed, names_merged, told_short, pair_deep}
 
 -- the first entry below 2 q, of one bit more, is the first below q
 twice_first : (w u q : ℕ) → u < w → 2 * q * 2 ^ (w - suc u) ≡ q * 2 ^ (w - u)

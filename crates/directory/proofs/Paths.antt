@@ -3,11 +3,11 @@ use Rattle.std.proofs.Common.{◌≡◌, ℕ, suc, ◌+◌, ◌-◌, ◌*◌, �
 use Rattle.std.proofs.lemmas.Bool.{cases_lt, cases_eq}
 use Rattle.tree.specs.Prefix.{pre, sib}
 use Rattle.tree.specs.Members.{In}
-use Rattle.tree.proofs.Prefixes.{pre_step, pre_pre, pre_below, pre_across, pre_filled}
+use Rattle.tree.proofs.Prefixes.{pre_step, pre_pre, pre_below, pre_across, pre_filled, first_below}
 use Rattle.tree.proofs.Growth.{sib_other, sib_parent, sib_only}
 use Rattle.directory.specs.Names.{Unused, DepthUsed, Free, NoneFree, AllIn, Beyond, assigned, widened}
 use Rattle.directory.specs.Changes.{Splitting, SplitEntry, SplitTo, TooFew, WidenedTo}
-use Rattle.directory.proofs.Naming.{first_below, assigned_in, assigned_out, names_at, names_widened, names_split}
+use Rattle.directory.proofs.Naming.{assigned_in, assigned_out, names_at, names_widened, names_split}
 use Rattle.directory.proofs.Taken.{none_free}
 
 -- E₁ is split down to j bits, and has as many pages more as that takes

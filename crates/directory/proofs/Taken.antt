@@ -5,13 +5,12 @@ use Rattle.std.proofs.lemmas.Bool.{cases_lt}
 use Rattle.tree.specs.Prefix.{pre}
 use Rattle.tree.specs.Members.{In}
 use Rattle.tree.specs.Trees.{buckets}
-use Rattle.tree.proofs.Prefixes.{pre_below, pre_filled}
+use Rattle.tree.proofs.Prefixes.{pre_below, pre_filled, first_below}
 use Rattle.tree.proofs.Partition.{falls_bucket}
 use Rattle.tree.proofs.Listing.{bucket_listed}
 use Rattle.tree.proofs.Sets.{free_number}
 use Rattle.directory.specs.Names.{NoneFree, AllIn}
 use Rattle.directory.specs.Laws.{PagesTaken}
-use Rattle.directory.proofs.Naming.{first_below}
 
 in_map : {X Y : Type 0} (f : X → Y) (x : X) (xs : List X) → In x xs → In (f x) (map f xs)
 in_map f x [] i = absurd i

@@ -3,11 +3,10 @@ use Rattle.std.proofs.Common.{◌≡◌, ℕ, suc, ◌+◌, ◌-◌, ◌*◌, �
 use Rattle.std.specs.List.{AllByRecursion}
 use Rattle.std.proofs.lemmas.Bool.{cases_lt, cases_eq, eqb-false, not-true}
 use Rattle.std.proofs.ByRecursion.{kept_by_passes}
-use Rattle.std.proofs.lemmas.Nat.{shl_below}
 use Rattle.tree.specs.Prefix.{pre, sib}
 use Rattle.tree.specs.Loads.{Loads, load, Splits}
 use Rattle.tree.specs.Trees.{Falls, Roomy, room, buckets, longest, depth}
-use Rattle.tree.proofs.Prefixes.{pre_below, pre_filled, pre_step, pre_pre, pre_across}
+use Rattle.tree.proofs.Prefixes.{pre_below, pre_filled, pre_step, pre_pre, pre_across, first_below}
 use Rattle.tree.proofs.Loading.{path_mono, path_sib}
 use Rattle.tree.proofs.Partition.{falls_once, falls_bucket, has_bucket}
 use Rattle.tree.proofs.Listing.{listed_bucket, bucket_listed, longest_le, longest_at}
@@ -34,8 +33,7 @@ entry_named L r i h =
     let D = depth L in
     let x = i * 2 ^ (32 - D) in
     let deep = depth_le L in
-    let e : D + (32 - D) ≡ 32 = omega arith in
-    let small : x < 2 ^ 32 = subst (λ v. x < 2 ^ v) e (shl_below i D (32 - D) h) in
+    let small : x < 2 ^ 32 = first_below 32 D i (omega arith) h in
     let b = has_bucket L 32 x (r (pre 32 x 8) (pre_below 32 x 8 (lit≤ tt) small)) in
     let w : b.0 ≤ 32 = omega (arith, b.1) in
     let short = longest_le (buckets L) (b.0, pre 32 x b.0) (bucket_listed L b.0 (pre 32 x b.0) b.1 (pre_below 32 x b.0 w small) (falls_bucket L 32 x b.0 w b.2)) in

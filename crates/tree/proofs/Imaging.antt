@@ -1,12 +1,12 @@
 -- A page's bytes are the load of its prefix, and the records of an image are those of its pages.
 use Rattle.std.proofs.Common.{◌≡◌, ℕ, zero, suc, ◌+◌, ◌-◌, ◌*◌, ◌%◌, ◌^◌, ◌<◌, ◌≤◌, true, eqb, List, [], sum_by, sym, ap, ◌∙◌, subst, ap₂, ⊎_elim, arith, pow_pos}
-use Rattle.std.proofs.lemmas.Nat.{shr_split, mod-mul-add, shl_below}
+use Rattle.std.proofs.lemmas.Nat.{shr_split, mod-mul-add}
 use Rattle.std.proofs.lemmas.Bool.{cases_lt, cases_eq, cases_Bool, eq-eqb, eqb-true, cond-true, cond-false}
 use Rattle.tree.specs.Members.{In}
 use Rattle.tree.specs.Prefix.{pre}
 use Rattle.tree.specs.Loads.{load}
 use Rattle.tree.specs.Images.{gathered, at_first, image_map, Pages}
-use Rattle.tree.proofs.Prefixes.{pre_filled, pre_across, pre_below}
+use Rattle.tree.proofs.Prefixes.{pre_filled, pre_across, pre_below, first_below}
 use Rattle.tree.proofs.Sets.{in_left, in_right, in_append}
 use Rattle.tree.proofs.Loading.{load_nil}
 use Rattle.tree.proofs.Mapping.{load_append, load_all_in, load_none_in, all_of, all_in}
@@ -54,10 +54,7 @@ module _ {X : Type 0} (hash weight : X → ℕ) (w : ℕ) (narrow : w ≤ 32) (d
 
   start_below : (i : ℕ) → i < 2 ^ w → start i < 2 ^ w
   unfolding start
-  start_below i h =
-      let s = pages.parts.short i h in
-      let e : d i + (w - d i) ≡ w = omega arith in
-      subst (λ v. pre w i (d i) * 2 ^ (w - d i) < 2 ^ v) e (shl_below (pre w i (d i)) (d i) (w - d i) (pre_below w i (d i) s h))
+  start_below i h = let s = pages.parts.short i h in first_below w (d i) (pre w i (d i)) s (pre_below w i (d i) s h)
 
   start_length : (i : ℕ) → i < 2 ^ w → d (start i) ≡ d i
   start_length i h = pages.parts.whole i (start i) h (start_below i h) (start_pre i)

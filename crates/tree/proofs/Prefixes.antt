@@ -1,8 +1,8 @@
 -- Prefixes of prefixes.
-use Rattle.std.proofs.Common.{◌≡◌, ℕ, suc, ◌+◌, ◌-◌, ◌*◌, ◌/◌, ◌^◌, ◌<◌, ◌≤◌, sym, ap, ◌∙◌, ⊎_elim, div-one, arith, pow_pos, shr-shr, shr_lt}
+use Rattle.std.proofs.Common.{◌≡◌, ℕ, suc, ◌+◌, ◌-◌, ◌*◌, ◌/◌, ◌^◌, ◌<◌, ◌≤◌, sym, ap, ◌∙◌, subst, ⊎_elim, div-one, arith, pow_pos, shr-shr, shr_lt}
 use native.Mathlib.Nat.{div-eq_of_lt}
 use Rattle.std.proofs.lemmas.Bool.{cases_lt}
-use Rattle.std.proofs.lemmas.Nat.{shl-shr, le-div}
+use Rattle.std.proofs.lemmas.Nat.{shl-shr, shl_below, le-div}
 use Rattle.tree.specs.Prefix.{pre}
 
 -- a prefix is the next longer one without its last bit
@@ -50,3 +50,6 @@ pre_up n q k h =
 -- the number of w bits that begins with p of length n, and has zeros behind
 pub pre_filled : (w p n : ℕ) → pre w (p * 2 ^ (w - n)) n ≡ p
 pre_filled w p n = shl-shr p (w - n)
+
+pub first_below : (v w i : ℕ) → w ≤ v → i < 2 ^ w → i * 2 ^ (v - w) < 2 ^ v
+first_below v w i k h = let e : w + (v - w) ≡ v = omega arith in subst (λ u. i * 2 ^ (v - w) < 2 ^ u) e (shl_below i w (v - w) h)

@@ -1,7 +1,6 @@
 -- A directory that holds a map, wider or narrower, and after the splits or the merges of a change.
-use Rattle.std.proofs.Common.{◌≡◌, ℕ, suc, ◌+◌, ◌-◌, ◌*◌, ◌^◌, ◌<◌, ◌≤◌, Bool, true, false, cond, eqb, List, [], ◌∷◌, sum_by, filter, sym, refl, ap, ◌∙◌, subst, inl, inr, ⊎_elim, arith}
+use Rattle.std.proofs.Common.{◌≡◌, ℕ, suc, ◌-◌, ◌*◌, ◌^◌, ◌<◌, ◌≤◌, Bool, true, false, cond, eqb, List, [], ◌∷◌, sum_by, filter, sym, refl, ap, ◌∙◌, subst, inl, inr, ⊎_elim, arith}
 use Rattle.std.proofs.lemmas.Bool.{cases_lt, eq-eqb, eqb-true}
-use Rattle.std.proofs.lemmas.Nat.{shl_below}
 use Rattle.keys.specs.Rule.{Rule, Lawful}
 use Rattle.tree.specs.Maps.{Rec, size, Valid, Change, key_of, made}
 use Rattle.tree.specs.Members.{In, Once}
@@ -9,7 +8,7 @@ use Rattle.tree.specs.Prefix.{pre}
 use Rattle.tree.specs.Loads.{Loads, load, hashed, loads}
 use Rattle.tree.specs.Trees.{Falls}
 use Rattle.tree.specs.Images.{Begun, Holds, SplitEntry, MergedEntry}
-use Rattle.tree.proofs.Prefixes.{pre_pre, pre_below, pre_across, pre_filled, pre_self}
+use Rattle.tree.proofs.Prefixes.{pre_pre, pre_below, pre_across, pre_filled, pre_self, first_below}
 use Rattle.tree.proofs.Loading.{load_splits}
 use Rattle.tree.proofs.Partition.{falls_once}
 use Rattle.tree.proofs.Growth.{Grows, grown_longer}
@@ -45,16 +44,13 @@ module _ {X : Type 0} (hash weight : X → ℕ) where
       → Holds hash weight m w (λ i. d (i * 2 ^ (v - w))) (λ i. recs (i * 2 ^ (v - w)))
   narrow_holds m w v d recs k o s =
       record {
-        short = λ i h. s (i * 2 ^ (v - w)) (below i h);
+        short = λ i h. s (i * 2 ^ (v - w)) (first_below v w i k h);
         falls = λ i h. subst (λ u. Falls (load hash weight m) w u (d (i * 2 ^ (v - w)))) (pre_filled v i w)
-            (narrower_falls (load hash weight m) w v (i * 2 ^ (v - w)) (d (i * 2 ^ (v - w))) (s (i * 2 ^ (v - w)) (below i h)) k (o.falls (i * 2 ^ (v - w)) (below i h)));
+            (narrower_falls (load hash weight m) w v (i * 2 ^ (v - w)) (d (i * 2 ^ (v - w))) (s (i * 2 ^ (v - w)) (first_below v w i k h)) k (o.falls (i * 2 ^ (v - w)) (first_below v w i k h)));
         has = λ i h. begun_at m (d (i * 2 ^ (v - w))) (d (i * 2 ^ (v - w))) _ _ _ _ refl
-            (sym (pre_pre v (i * 2 ^ (v - w)) w (d (i * 2 ^ (v - w))) (s (i * 2 ^ (v - w)) (below i h)) k) ∙ ap (λ u. pre w u (d (i * 2 ^ (v - w)))) (pre_filled v i w)) refl
-            (o.has (i * 2 ^ (v - w)) (below i h));
+            (sym (pre_pre v (i * 2 ^ (v - w)) w (d (i * 2 ^ (v - w))) (s (i * 2 ^ (v - w)) (first_below v w i k h)) k) ∙ ap (λ u. pre w u (d (i * 2 ^ (v - w)))) (pre_filled v i w)) refl
+            (o.has (i * 2 ^ (v - w)) (first_below v w i k h));
       }
-    where
-      below : (i : ℕ) → i < 2 ^ w → i * 2 ^ (v - w) < 2 ^ v
-      below i h = let e : w + (v - w) ≡ v = omega arith in subst (λ u. i * 2 ^ (v - w) < 2 ^ u) e (shl_below i w (v - w) h)
 
   module _ (h : ℕ) (m m' : List X) (rest : (x : X) → (hash x ≡ h → ⊥) → (In x m → In x m') × (In x m' → In x m))
       (w : ℕ) (narrow : w ≤ 32) (d d' : ℕ → ℕ) (recs recs' : ℕ → List X) (o : Holds hash weight m w d recs) where
