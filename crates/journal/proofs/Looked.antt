@@ -6,7 +6,7 @@ use Rattle.device.specs.declared.DeviceFault.{DeviceFault}
 use Rattle.device.specs.Meaning.{State, bytes, spoiled, Meaning}
 use Rattle.device.specs.Promises.{Same, Lost}
 use Rattle.device.specs.Calls.{Answer, shown_page, lost}
-use Rattle.device.proofs.Meanings.{same_self}
+use Rattle.device.proofs.Meanings.{same_self, same_trans}
 use Rattle.journal.specs.declared.entries.Entry.{Entry}
 use Rattle.journal.specs.declared.entries.Pending.{Pending}
 use Rattle.journal.specs.Waiting.{waiting, pages, blank}
@@ -16,16 +16,6 @@ use Rattle.journal.specs.Recovery.{Awake, Looked, LoadedTo, Loaded, Found}
 use Rattle.journal.specs.Sound.{pages_length}
 use Rattle.journal.proofs.Crash.{whole_same}
 use Rattle.journal.proofs.Parsing.{pages_push}
-
-same_trans : (m n o : Meaning) → Same m n → Same n o → Same m o
-same_trans m n o a b = let c = a.count in record {
-  count = b.count ∙ a.count;
-  runs = b.runs ∙ a.runs;
-  shown = λ i h. b.shown i (omega arith) ∙ a.shown i h;
-  no_more = λ i s h x. a.no_more i s h (b.no_more i s (omega arith) x);
-  no_less = λ i s h x. b.no_less i s (omega arith) (a.no_less i s h x);
-  waits = b.waits ∙ a.waits;
-}
 
 same_lost : (m n o : Meaning) → Same m n → Lost n o → Lost m o
 same_lost m n o a b = let c = a.count in record {

@@ -8,22 +8,10 @@ use Rattle.device.specs.Promises.{Same}
 use Rattle.device.specs.GroupPromises.{NoEnd, SameGroup}
 use Rattle.device.specs.Calls.{shown_page, Answer, Call, reads, Calls, none, more, GroupCalls}
 use Rattle.device.specs.Clauses.{GroupDoes}
-use Rattle.device.proofs.Meanings.{same_self, same_group_self}
+use Rattle.device.proofs.Meanings.{same_self, same_trans, same_group_self}
 use Rattle.pages.specs.Reads.{made, Ready, Kept, Failed, Shows, Seen, Looks, PageRead}
 
 -- ---- meanings
-
-same_trans : (m n o : Meaning) → Same m n → Same n o → Same m o
-same_trans m n o a b =
-    let c = a.count in
-    record {
-      count = b.count ∙ c;
-      runs = b.runs ∙ a.runs;
-      shown = λ i h. b.shown i (subst (λ k. i < k) (sym c) h) ∙ a.shown i h;
-      no_more = λ i s h f. a.no_more i s h (b.no_more i s (subst (λ k. i < k) (sym c) h) f);
-      no_less = λ i s h f. b.no_less i s (subst (λ k. i < k) (sym c) h) (a.no_less i s h f);
-      waits = b.waits ∙ a.waits;
-    }
 
 no_end_trans : (k : ℕ) (g h i : Grouped) → NoEnd k g h → NoEnd k h i → NoEnd k g i
 no_end_trans k g h i a b e x =
