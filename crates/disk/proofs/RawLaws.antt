@@ -5,6 +5,7 @@ use borrow.Rule.Slice.PartMut.{put_mid}
 use Rattle.std.proofs.lemmas.List.{take_at, drop_at, append-nil, length-take, length-drop, length-append, drop-drop, append_assoc, get_or-take, get_or-drop, get_or_append_left, get_or-append_right, ext_get_or, drop_all}
 use Rattle.std.proofs.lemmas.Bool.{cases_order, eq-eqb, cond_both}
 use Rattle.disk.specs.Raw.{check_of, raw, put_raw, sealed, holds, decode, stored, mix, torn, chosen}
+use Rattle.disk.specs.HeldSound.{raw_size}
 use Rattle.std.specs.Bool.{then_some}
 use Rattle.std.specs.Option.{MatchOption}
 use Rattle.std.specs.Simd.{first_chunks}
@@ -18,10 +19,6 @@ pub at_chunk : {X : Type 0} (n c : ℕ) (xs : List X) (i : ℕ) → i < c → ge
 at_chunk n zero xs i h = absurd (omega arith)
 at_chunk n (suc c) xs zero h = ap (λ m. take n (drop m xs)) (let z : 0 ≡ 0 * n = omega arith in z)
 at_chunk n (suc c) xs (suc i) h = at_chunk n c (drop n xs) i (omega arith) ∙ (ap (take n) (drop-drop (i * n) n xs) ∙ ap (λ m. take n (drop m xs)) (let z : n + i * n ≡ suc i * n = grind arith in z))
-
-pub length_raw : (img : List ℕ) (i : ℕ) → i * 256 + 256 ≤ length img → length (raw img i) ≡ 256
-unfolding raw
-length_raw img i h = simp (length-take, length-drop) (omega arith)
 
 pub get_d_raw : (img : List ℕ) (i k d : ℕ) → k < 256 → get_or (raw img i) k d ≡ get_or img (i * 256 + k) d
 unfolding raw
@@ -64,9 +61,9 @@ module _ (img x : List ℕ) (i j : ℕ) (h : i * 256 + 256 ≤ length img) (e : 
   pub raw_other : j ≢ i → j * 256 + 256 ≤ length img → raw (put_raw img i x) j ≡ raw img j
   raw_other ne g =
       let g' : j * 256 + 256 ≤ length (put_raw img i x) = omega (arith, length_put img x i h e) in
-      ext_get_or 0 _ _ (length_raw (put_raw img i x) j g' ∙ sym (length_raw img j g))
+      ext_get_or 0 _ _ (raw_size (put_raw img i x) j g' ∙ sym (raw_size img j g))
       (λ k lt.
-      let lt' : k < 256 = omega (arith, lt, length_raw (put_raw img i x) j g') in
+      let lt' : k < 256 = omega (arith, lt, raw_size (put_raw img i x) j g') in
       get_d_raw (put_raw img i x) j k 0 lt' ∙ (other_at k 0 ne lt' ∙ sym (get_d_raw img j k 0 lt')))
 
 -- a raw page r shows its page, if its check holds

@@ -5,10 +5,11 @@ use Rattle.std.proofs.lemmas.List.Edits.{fill_none, fill_more}
 use Rattle.std.proofs.lemmas.Bool.{cond-true, cond-false, ne_eqb}
 use Rattle.disk.specs.Raw.{raw, put_raw, chosen}
 use Rattle.disk.specs.Image.{cleared, count_of, current, cut_page, marked, CutTo, Settled, Swept, rank}
+use Rattle.disk.specs.HeldSound.{raw_size}
 use Rattle.disk.specs.Arm.{byte_of, bytes_of, letter_of}
 use Rattle.disk.specs.declared.arming.Letter.{Letter}
 use Rattle.disk.specs.declared.arming.Letter.TheVariants.{Old}
-use Rattle.disk.proofs.RawLaws.{length_raw, length_chosen, length_put, raw_put, raw_other, drop_put}
+use Rattle.disk.proofs.RawLaws.{length_chosen, length_put, raw_put, raw_other, drop_put}
 
 -- the pages lie within the images
 module _ (s w k : List ℕ) where
@@ -137,10 +138,10 @@ module _ (s w k : List ℕ) (ls : List Letter) (T i turn : ℕ) (s' w' k' : List
       let m = sym still ∙ is_marked k' i ne in
       let old = h.todo i (omega arith) lt in
       let new = ap (λ v. raw v i) same in
-      let l = length_raw w i (omega (arith, count_written s w k)) in (
+      let l = raw_size w i (omega (arith, count_written s w k)) in (
         ap (λ t. t + 1) at ∙ sym (rank_more k i ∙ ap (λ b. rank k i + cond b 1 0) m),
         swept_put _ s k _ (count_settled s w k) (count_marks s w k) i s' k' h lt _
-            (length_chosen _ T (raw s' i) (raw w' i) (ap length old ∙ length_raw s i (omega (arith, count_settled s w k))) (ap length new ∙ l))
+            (length_chosen _ T (raw s' i) (raw w' i) (ap length old ∙ raw_size s i (omega (arith, count_settled s w k))) (ap length new ∙ l))
             (cut_marked s w k (bytes_of ls) T i _ _ _ (letter_at ls turn some ∙ ap (letter_of (bytes_of ls)) at) old new m),
       )
 

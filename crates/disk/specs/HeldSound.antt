@@ -16,7 +16,7 @@ unfolding decode
 decoded r e =
     elim (holds r) as (λ b. size_of (cond b (bytes (take 252 r)) spoiled) ≡ 252) [ true ↦ simp length-take (omega arith) | false ↦ refl ]
 
-raw_size : (img : List ℕ) (i : ℕ) → i * 256 + 256 ≤ length img → length (raw img i) ≡ 256
+pub raw_size : (img : List ℕ) (i : ℕ) → i * 256 + 256 ≤ length img → length (raw img i) ≡ 256
 unfolding raw
 raw_size img i h = simp (length-take, length-drop) (omega arith)
 
