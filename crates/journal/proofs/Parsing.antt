@@ -1,9 +1,10 @@
 -- What the reader of a header finds.
-use Rattle.std.proofs.Common.{◌≡◌, ℕ, zero, suc, ◌+◌, ◌*◌, ◌/◌, ◌%◌, ◌<◌, ◌≤◌, Bool, true, false, ◌&&◌, eqb, leb, List, [], ◌∷◌, ◌++◌, length, get_or, drop, Option, Some, None, MatchOption, MatchBool, sym, refl, ap, ◌∙◌, ⊎_elim, arith, map}
+use Rattle.std.proofs.Common.{◌≡◌, ℕ, zero, suc, ◌+◌, ◌*◌, ◌/◌, ◌%◌, ◌<◌, ◌≤◌, Bool, true, false, ◌&&◌, eqb, leb, List, [], ◌∷◌, ◌++◌, length, get_or, drop, Option, Some, None, MatchOption, MatchBool, sym, refl, ap, ◌∙◌, ◌⊎◌, ⊎_elim, subst, arith, map}
 use Rattle.std.proofs.lemmas.List.{at_drop_more}
 use Rattle.std.proofs.lemmas.Bool.{le-leb, leb-true, and_from, and_parts, cases_Bool, cond-true, cond-false, false≢true}
 use Rattle.std.specs.Borrow.{Bor}
-use Rattle.std.specs.List.{list_any}
+use Rattle.std.specs.List.{list_any, enumerate_from, AllWithin, HoldsAt}
+use Rattle.std.proofs.lemmas.List.FromFn.{get_or-enumerate_from, length-enumerate_from}
 use Rattle.std.specs.Simd.{first_chunks}
 use Rattle.std.proofs.lemmas.Bool.Decides.{nat_tests}
 use Rattle.arrayvec.specs.ArrayVec.{ArrayVec}
@@ -20,14 +21,41 @@ pub has_any : (p : ℕ) (xs : List ℕ) → list_any (λ y. eqb y p) xs ≡ has 
 has_any p [] = refl
 has_any p (x ∷ xs) = grind (arith, nat_tests, has_any p xs)
 
-pub once_more : (n : ℕ) (xs : List ℕ) (i : ℕ) → i < length xs → get_or xs i 0 < n → has (get_or xs i 0) (drop (i + 1) xs) ≡ false → once n (drop i xs) ≡ once n (drop (i + 1) xs)
-once_more n xs i h l e = at_drop_more (once n) xs i 0 h ∙ grind (arith, nat_tests)
-
 pub once_past : (n : ℕ) (xs : List ℕ) (i : ℕ) → i < length xs → n ≤ get_or xs i 0 → once n (drop i xs) ≡ false
 once_past n xs i h l = at_drop_more (once n) xs i 0 h ∙ grind (arith, nat_tests)
 
 pub once_again : (n : ℕ) (xs : List ℕ) (i : ℕ) → i < length xs → has (get_or xs i 0) (drop (i + 1) xs) ≡ true → once n (drop i xs) ≡ false
 once_again n xs i h e = at_drop_more (once n) xs i 0 h ∙ grind (arith, nat_tests)
+
+-- what of one page, at its place in a list, keeps a list from being distinct pages below n
+abbrev pub Unlike : ℕ → List ℕ → ℕ × ℕ → Type 0
+Unlike n xs p = (n ≤ p.1) ⊎ (has p.1 (drop (p.0 + 1) xs) ≡ true)
+
+abbrev pub Apart : ℕ → List ℕ → ℕ × ℕ → Type 0
+Apart n xs p = (p.1 < n) × (has p.1 (drop (p.0 + 1) xs) ≡ false)
+
+once_all : (n : ℕ) (xs : List ℕ) → ((i : ℕ) → i < length xs → Apart n xs (i, get_or xs i 0)) → once n xs ≡ true
+once_all n [] k = refl
+once_all n (x ∷ xs) k = let h = k 0 (omega arith) in let e = once_all n xs (λ i l. let q = k (suc i) (omega arith) in let step : suc i + 1 ≡ suc (i + 1) = omega arith in (q.0, subst (λ m. has (get_or xs i 0) (drop m (x ∷ xs)) ≡ false) step q.1)) in grind (arith, nat_tests)
+
+once_back : (n : ℕ) (xs : List ℕ) (k : ℕ) → once n (drop k xs) ≡ false → once n xs ≡ false
+once_back n xs zero e = e
+once_back n [] (suc k) e = e
+once_back n (x ∷ xs) (suc k) e = let r = once_back n xs k e in grind (arith, nat_tests)
+
+placed : (xs : List ℕ) (i : ℕ) → i < length xs → get_or (enumerate_from 0 xs) i (0, 0) ≡ (i, get_or xs i 0)
+placed xs i l = let z : 0 + i ≡ i = omega arith in get_or-enumerate_from 0 xs i (0, 0) l ∙ ap (λ (j : ℕ). (j, get_or xs i 0)) z
+
+-- what is told of all pages of a list, each with its place
+pub once_told : (n : ℕ) (xs : List ℕ) (r : Bool)
+    → MatchBool r (AllWithin (Apart n xs) (enumerate_from 0 xs) 0 (length (enumerate_from 0 xs))) ((k : ℕ) × (k < length (enumerate_from 0 xs)) × HoldsAt (Unlike n xs) (enumerate_from 0 xs) k)
+    → r ≡ once n xs
+once_told n xs true a = sym (once_all n xs (λ i l.
+    subst (Apart n xs) (placed xs i l) (a i (0, 0) (omega arith) (omega (arith, l, length-enumerate_from 0 xs)))))
+once_told n xs false h =
+    let k = h.0 in
+    let l : k < length xs = omega (arith, h.1, length-enumerate_from 0 xs) in
+    sym (once_back n xs k (⊎_elim (once_past n xs k l) (once_again n xs k l) (subst (Unlike n xs) (placed xs k l) (h.2 (0, 0)))))
 
 -- the number that two bytes make
 abbrev pub word : List ℕ → ℕ

@@ -16,12 +16,8 @@ pub(crate) type Targets = ArrayVec<u16, 64>;
 fn named_once(pages: &[u16], count: usize) -> bool
     ensures { result ≡ once count pages.now }
 {
-    for (i, page) in pages.iter().enumerate() {
-        if usize::from(*page) >= count || pages[i + 1..].contains(page) {
-            return false;
-        }
-    }
-    true
+    pages.iter().enumerate().all(|(i, page)| usize::from(*page) < count
+        && !pages[i + 1..].contains(page))
 }
 
 // The numbers in a body of two bytes each, where there are at most 64.
