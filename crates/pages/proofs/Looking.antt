@@ -11,7 +11,7 @@ use Rattle.device.specs.Clauses.{GroupDoes}
 use Rattle.device.proofs.Meanings.{same_self, same_trans, same_group_self}
 use Rattle.pages.specs.Reads.{made, Ready, Kept, Failed, Shows, Seen, Looks, PageRead}
 
--- ---- meanings
+-- ---- groups
 
 no_end_trans : (k : ℕ) (g h i : Grouped) → NoEnd k g h → NoEnd k h i → NoEnd k g i
 no_end_trans k g h i a b e x =

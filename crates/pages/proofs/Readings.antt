@@ -30,7 +30,7 @@ module _ (K : Rule) (e : ℕ → State) (w : W4 K e) where
   depth_at i (inl h) = (w i h).0
   depth_at i (inr h) = 0
 
-  recs_at : (i : ℕ) → (i < wide e) ⊎ (wide e ≤ i) → List Rec
+  unfoldable pub recs_at : (i : ℕ) → (i < wide e) ⊎ (wide e ≤ i) → List Rec
   recs_at i (inl h) = (w i h).1
   recs_at i (inr h) = []
 

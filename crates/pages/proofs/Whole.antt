@@ -1,5 +1,5 @@
 -- A check of an image, put together.
-use Rattle.std.proofs.Common.{◌≡◌, ℕ, ◌+◌, ◌*◌, ◌^◌, ◌<◌, ◌≤◌, ◌⊎◌, List, [], length, take, sym, ap, ◌∙◌, subst, inl, inr, arith, pow_mono}
+use Rattle.std.proofs.Common.{◌≡◌, ℕ, ◌+◌, ◌*◌, ◌^◌, ◌<◌, ◌≤◌, ◌⊎◌, List, length, take, sym, ap, ◌∙◌, subst, inl, inr, arith, pow_mono}
 use Rattle.std.proofs.lemmas.Bool.{cases_lt}
 use Rattle.device.specs.Meaning.{State}
 use Rattle.tree.specs.Prefix.{pre}
@@ -16,6 +16,7 @@ use Rattle.pages.specs.Surveys.{depth_at, bytes_at, count_at, AllPlaced, Entries
 use Rattle.pages.specs.Gathered.{AllPaged, Gathered, AllStand, AllBuckets}
 use Rattle.pages.specs.declared.survey.Bucket.{Bucket}
 use Rattle.pages.proofs.Gathering.{paged_first, paged_gathered, placed_stand, stand_placed}
+use Rattle.pages.proofs.Readings.{recs_at}
 use Rattle.pages.proofs.Deciding.{Surveyed, five_from, five_entries, six_from, six_to}
 
 -- ---- the lowest broken condition
@@ -134,15 +135,11 @@ module _ (K : Rule) (n : ℕ) (e : ℕ → State) (x : Root) (w : ℕ) (ew : w �
       pub fourth_from : W4 K e
       fourth_from i h = let a = g i (to_w i h) in (D i, a.recs, subst (λ p. BucketIs p (D i) a.recs) (page i h) a.is, a.fine)
 
-      recs_of : (i : ℕ) → (i < wide e) ⊎ (wide e ≤ i) → List Rec
-      recs_of i (inl h) = (g i (to_w i h)).recs
-      recs_of i (inr h) = []
-
       pub recs : ℕ → List Rec
-      recs i = recs_of i (cases_lt i (wide e))
+      recs i = recs_at K e fourth_from i (cases_lt i (wide e))
 
-      is_of : (i : ℕ) (t : (i < wide e) ⊎ (wide e ≤ i)) → i < wide e → BucketIs (named e i) (D i) (recs_of i t) × (S i ≡ length (records (recs_of i t))) × (C i ≡ length (recs_of i t))
-      unfolding recs_of
+      is_of : (i : ℕ) (t : (i < wide e) ⊎ (wide e ≤ i)) → i < wide e → BucketIs (named e i) (D i) (recs_at K e fourth_from i t) × (S i ≡ length (records (recs_at K e fourth_from i t))) × (C i ≡ length (recs_at K e fourth_from i t))
+      unfolding recs_at fourth_from
       is_of i (inl h) l = let a = g i (to_w i h) in (subst (λ p. BucketIs p (D i) a.recs) (page i h) a.is, a.bytes, a.count)
       is_of i (inr h) l = absurd (omega arith)
 
