@@ -32,10 +32,7 @@ impl Memory {
     pub(crate) fn running(&self) -> Result<(), DeviceFault>
         ensures { MatchResult result (λ _. up self.now ≡ true) (λ e. (up self.now ≡ false) × (number e ≡ 11)) }
     {
-        if !self.up() {
-            return Err(DeviceFault::PowerLost);
-        }
-        Ok(())
+        device::running(self.up())
     }
 
     /// The bytes of a page that is kept.

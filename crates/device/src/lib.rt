@@ -2,7 +2,8 @@
 //! a device is proved once, for every device.
 #![tactic(auto)]
 
-ghost use Rattle.std.specs.Prelude.{◌≡◌};
+ghost use Rattle.std.specs.Prelude.{◌≡◌, true, false, MatchResult};
+ghost use Rattle.device.specs.declared.DeviceFault.TheVariants.{PowerLost};
 ghost use Rattle.device.specs.Calls.{reads, writes, syncs, restarts, discards, shown_page};
 ghost use Rattle.device.specs.Clauses.{Does, GroupDoes};
 ghost use Rattle.device.specs.Gate.{Gate};
@@ -45,6 +46,16 @@ impl DeviceFault {
     }
 }
 
+/// Refuses a call of a device that is down.
+pub fn running(runs: bool) -> Result<(), DeviceFault>
+    ensures { MatchResult result (λ _. runs ≡ true) (λ e. (runs ≡ false) × (e ≡ PowerLost)) }
+{
+    if !runs {
+        return Err(DeviceFault::PowerLost);
+    }
+    Ok(())
+}
+
 /// The checks that come before any work of a read or a write, by a device of `count` pages: of the page number, of the buffer's length, and
 /// that the device runs.
 pub fn gate(count: usize, page: usize, len: usize, runs: bool) -> Result<(), DeviceFault>
@@ -56,10 +67,7 @@ pub fn gate(count: usize, page: usize, len: usize, runs: bool) -> Result<(), Dev
     if len != PAGE_SIZE {
         return Err(DeviceFault::BufferSize);
     }
-    if !runs {
-        return Err(DeviceFault::PowerLost);
-    }
-    Ok(())
+    running(runs)
 }
 
 /// The page that a read brought, by its answer and what its buffer then holds; none where the page is spoiled, which is no refusal here.

@@ -90,9 +90,7 @@ impl<'a> Device for Disk<'a> {
         ensures does { Does Agrees meant syncs self.old result self.new }
         ensures exact { SyncTo (held self.old) result (held self.new) }
     {
-        if !self.running {
-            return Err(DeviceFault::PowerLost);
-        }
+        device::running(self.running)?;
         self.count_call()?;
         self.images.settle(&[Letter::New], 0);
         Ok(())

@@ -40,10 +40,7 @@ impl<D> Journal<D> {
     fn running(&self) -> Result<(), DeviceFault>
         ensures { MatchResult result (λ _. self.now.up ≡ true) (λ e. (self.now.up ≡ false) × (e ≡ PowerLost)) }
     {
-        if !self.up {
-            return Err(DeviceFault::PowerLost);
-        }
-        Ok(())
+        device::running(self.up)
     }
 
     // Power was lost below.
