@@ -94,15 +94,14 @@ fn read_directory<D: GroupDevice>(device: &mut D) -> Result<Option<[u16; 256]>, 
     ensures { 5 < (D.Device.meaning device.old).count → Looks D.Device.agrees D.Device.meaning D.GroupDevice.grouped 4 device.old result device.new (λ n f o. MatchOption o (((j : ℕ) → j < 4 → Directory (shows (f (1 + j)))) → ⊥) (λ entries. DirectoriesRead f 4 entries)) }
 {
     let mut pages = [[0u8; PAGE_SIZE]; 4];
-    // by number, which the read is given and at whose place the page goes
-    for j in 0..4usize {
+    for (j, slot) in pages.iter_mut().enumerate() {
         let Some(page) = read_page(device, 1 + j)? else {
             return Ok(None);
         };
         if !directory::is_directory(&page) {
             return Ok(None);
         }
-        pages[j] = page;
+        *slot = page;
     }
     Ok(Some(array::from_fn(|i| { directory::entry_at(&pages[i / 64], i % 64) })))
 }
@@ -159,12 +158,12 @@ fn read_buckets<D: GroupDevice, K: KeyRule>(
         count: 0,
         placed: false,
     }; 256];
-    // by number, which the read is given and at whose place its answer goes
-    for i in 0..layout.used().len() {
+    let used = &mut buckets[..layout.used().len()];
+    for (i, slot) in used.iter_mut().enumerate() {
         let Some(found) = read_named::<D, K>(device, layout, i)? else {
             return Ok(None);
         };
-        buckets[i] = found;
+        *slot = found;
     }
     Ok(Some(buckets))
 }

@@ -36,19 +36,19 @@ returns-then-not-is_directory g c = λ h a.
 
 pub loop-j-preserved : goal.loop-j-preserved
 loop-j-preserved g c = (
-  length-set c.loop-j.pages c.loop-j.j _ ∙ c.loop-j.invariant.0,
+  length-set c.loop-j.slot-items c.loop-j.j _ ∙ c.loop-j.invariant.0,
   λ h a.
       let i = c.loop-j.invariant.1 h a in
       let lt : 1 + c.loop-j.j < (g.D.Device.meaning c.loop-j.device).count = omega (arith, h, i.0.same.count) in
       held_on g.D.Device.agrees g.D.Device.meaning g.D.GroupDevice.grouped c.loop-j.j 1 (c.loop-j.j + 1) c.args.device.now c.loop-j.device c.read_page.new.device (omega arith) i (c.in_ok-page.ensures lt i.0.ready)
-      (λ n f x y. directories_more f c.loop-j.j c.in-Some.page c.loop-j.pages (omega (arith, c.loop-j.invariant.0)) (MatchOption-at_some _ _ c.in-Some.page c.in-Some.is y) c.if-not-is_directory.ensures x),
+      (λ n f x y. directories_more f c.loop-j.j c.in-Some.page c.loop-j.slot-items (omega (arith, c.loop-j.invariant.0)) (MatchOption-at_some _ _ c.in-Some.page c.in-Some.is y) c.if-not-is_directory.ensures x),
 )
 
 pub returns : goal.returns
 returns g c = λ h a.
     let e : c.loop-j.j ≡ 4 = omega arith in
-    let i = subst (λ k. Held g.D.Device.agrees g.D.Device.meaning g.D.GroupDevice.grouped k c.args.device.now c.loop-j.device (λ n f. PagesRead f k c.loop-j.pages)) e (c.loop-j.invariant.1 h a) in (
+    let i = subst (λ k. Held g.D.Device.agrees g.D.Device.meaning g.D.GroupDevice.grouped k c.args.device.now c.loop-j.device (λ n f. PagesRead f k c.loop-j.slot-items)) e (c.loop-j.invariant.1 h a) in (
       i.0,
-      λ n f s. entries_read f c.loop-j.pages c.from_fn.result (i.1 n f s)
-          (λ k l. made_by _ _ (λ v. entry_at (get_or c.loop-j.pages (v / 64) []) (v % 64)) (λ x y q w. search (rules, tests)) c.from_fn.result 0 256 c.from_fn.ensures.items.each k (omega arith) (omega arith)),
+      λ n f s. entries_read f c.loop-j.slot-items c.from_fn.result (i.1 n f s)
+          (λ k l. made_by _ _ (λ v. entry_at (get_or c.loop-j.slot-items (v / 64) []) (v % 64)) (λ x y q w. search (rules, tests)) c.from_fn.result 0 256 c.from_fn.ensures.items.each k (omega arith) (omega arith)),
     )
