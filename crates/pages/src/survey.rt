@@ -147,7 +147,7 @@ impl<'a> Survey<'a> {
     }
 
     /// Whether the buckets are a tree's, and the numbers of page 0 are right.
-    pub fn is_tree(&self) -> bool
+    pub(crate) fn is_tree(&self) -> bool
         ensures { (n : ℕ) × NumberRight (depth_at self.now.buckets.now) self.now.root.depth n × Tells result (TreeTested (depth_at self.now.buckets.now) (bytes_at self.now.buckets.now) (count_at self.now.buckets.now) self.now.root n) }
     {
         u32::from(self.root.used) == self.count_pages()
