@@ -130,17 +130,37 @@ fn play_group<R: BufRead + Drop, G: Armed + GroupDevice + Drop>(
     mut device: G,
 ) -> anyhow::Result<Option<Turn>> {
     say(rt, Ok(Answer::Count(device.page_count())))?;
+    match play_on_group(rt, script, &mut device)? {
+        Some(Turn::Store(rule)) => play_stores(rt, script, device, rule),
+        turn => Ok(turn),
+    }
+}
+
+// Plays the commands on a pile that is a group device up to the next turn, which may be a store.
+fn play_on_group<R: BufRead + Drop, G: Armed + GroupDevice>(
+    rt: &HostRuntime,
+    script: &mut Script<R>,
+    device: &mut G,
+) -> anyhow::Result<Option<Turn>> {
+    play_pile(
+        rt,
+        script,
+        Stage::Group,
+        device,
+        |group| Some(group.discard()),
+    )
+}
+
+// Plays the commands on stores that stand on a pile one after the other, and on the pile between them. The pile moves into a store and back: the
+// places for it are of this function, which is not inlined, so that a pile without a store does not pay for them.
+#[inline(never)]
+fn play_stores<R: BufRead + Drop, G: Armed + GroupDevice + Drop>(
+    rt: &HostRuntime,
+    script: &mut Script<R>,
+    mut device: G,
+    mut rule: Rule,
+) -> anyhow::Result<Option<Turn>> {
     for _ in 0..MAX_LINES {
-        let turn = play_pile(
-            rt,
-            script,
-            Stage::Group,
-            &mut device,
-            |group| Some(group.discard()),
-        )?;
-        let Some(Turn::Store(rule)) = turn else {
-            return Ok(turn);
-        };
         let (below, turn) = match rule {
             Rule::Integers => play_store::<R, G, IntegerKeys>(rt, script, device)?,
             Rule::Text => play_store::<R, G, TextKeys>(rt, script, device)?,
@@ -149,6 +169,11 @@ fn play_group<R: BufRead + Drop, G: Armed + GroupDevice + Drop>(
             return Ok(turn);
         };
         device = below;
+        let turn = play_on_group(rt, script, &mut device)?;
+        let Some(Turn::Store(next)) = turn else {
+            return Ok(turn);
+        };
+        rule = next;
     }
     Ok(None)
 }
