@@ -1,18 +1,19 @@
 -- The header and the bodies are read into memory.
-use Rattle.std.proofs.Common.{◌≡◌, ℕ, zero, suc, ◌+◌, ◌<◌, ◌≤◌, false, ◌≢◌, List, [], ◌∷◌, ◌++◌, length, get_or, take, Some, None, Option, Ok, Err, Result, sym, refl, ap, ◌∙◌, subst, inr, ⊎_elim, arith}
-use Rattle.std.proofs.lemmas.List.{get_or_push, get_or_append_left, length_push, length-take-le, take_more, take_all}
-use Rattle.std.proofs.lemmas.Bool.{cases_eq, and_left, and_right}
+use Rattle.std.proofs.Common.{◌≡◌, ℕ, zero, suc, ◌+◌, ◌<◌, ◌≤◌, eqb, false, ◌≢◌, List, [], ◌∷◌, ◌++◌, length, get_or, take, Option, Ok, Err, Result, sym, refl, ap, ◌∙◌, subst, inl, inr, ⊎_elim, arith}
+use Rattle.std.proofs.lemmas.List.{nil_from_length, get_or_push, get_or_append_left, length_push, length-take-le, take_more, take_all}
+use Rattle.std.proofs.lemmas.Bool.{cases_eq, ne_eqb, and_left, and_right}
 use Rattle.device.specs.declared.DeviceFault.{DeviceFault}
 use Rattle.device.specs.Meaning.{State, bytes, spoiled, Meaning}
 use Rattle.device.specs.Promises.{Same, Lost}
 use Rattle.device.specs.Calls.{Answer, shown_page, lost}
 use Rattle.device.proofs.Meanings.{same_self, same_trans}
+use Rattle.device.proofs.Whens.{when_false}
 use Rattle.journal.specs.declared.entries.Entry.{Entry}
-use Rattle.journal.specs.declared.entries.Pending.{Pending}
-use Rattle.journal.specs.Waiting.{waiting, pages, blank}
+use Rattle.journal.specs.Waiting.{pages, blank}
 use Rattle.journal.specs.Standing.{is_bytes, whole}
 use Rattle.journal.specs.Sending.{bare}
-use Rattle.journal.specs.Recovery.{Awake, Looked, LoadedTo, Loaded, Found}
+use Rattle.journal.specs.Order.{NoGroup}
+use Rattle.journal.specs.Recovery.{Awake, Looked, LoadedTo, Loaded, FoundGroup, Found}
 use Rattle.journal.specs.Sound.{pages_length}
 use Rattle.journal.proofs.Crash.{whole_same}
 use Rattle.journal.proofs.Parsing.{pages_push}
@@ -79,22 +80,31 @@ module _ (ts : List ℕ) (m : Meaning) (few : length ts ≤ 64) (a : Awake m) wh
     load_broken b = (whole_broken ts 1 j m.shown lt (sym shown_at ∙ b.0), same_trans m n o l.same b.1)
 
 -- whether what was loaded is a group that stood: n is what was read after the header, with its targets ts
-module _ (T : State → List ℕ) (m n : Meaning) (ts : List ℕ) (few : length ts ≤ 64) (some : 0 < length ts) (a : Awake m) (e : ts ≡ T (m.shown 0)) (s : Same m n) where
+module _ (T : State → List ℕ) (m n : Meaning) (ts : List ℕ) (few : length ts ≤ 64) (a : Awake m) (e : ts ≡ T (m.shown 0)) (s : Same m n) where
   whole_then : whole ts 1 m.shown ≡ whole ts 1 n.shown
   whole_then = whole_same ts 1 m.shown n.shown (λ k lo hi. sym (s.shown k (let r = a.room in omega arith)))
 
-  pub found_from : (o : Meaning) (r : Result (Option Pending) DeviceFault) → Loaded ts n r o → Found T m r o
-  found_from o (Ok (Some group)) l = record {
-    some = let p = pages_length (waiting group) in let q : length (pages (waiting group)) ≡ length ts = ap length (l.named ∙ take_all (length ts) ts (omega arith)) in omega arith;
-    group = subst (λ (x : List ℕ). LoadedTo x (length x) (waiting group) m o) e (record {
+  -- as many entries as targets
+  loaded_len : (es : List Entry) (o : Meaning) → LoadedTo ts (length ts) es n o → length es ≡ length ts
+  loaded_len es o l = sym (pages_length es) ∙ ap length (l.named ∙ take_all (length ts) ts (omega arith))
+
+  group_from : (es : List Entry) (o : Meaning) → 0 < length es → LoadedTo ts (length ts) es n o → FoundGroup T m es o
+  group_from es o some l = record {
+    some = some;
+    group = subst (λ (x : List ℕ). LoadedTo x (length x) es m o) e (record {
       same = same_trans m n o s l.same;
       named = l.named;
-      body = λ i h. sym (s.shown (1 + i) (let r = a.room in let k = within group l i h in omega arith)) ∙ l.body i h;
+      body = λ i h. sym (s.shown (1 + i) (let r = a.room in let k = loaded_len es o l in omega arith)) ∙ l.body i h;
       size = l.size;
     });
   }
-    where
-      within : (group : Pending) → LoadedTo ts (length ts) (waiting group) n o → (i : ℕ) → i < length (waiting group) → i < 64
-      within group l i h = let p = pages_length (waiting group) in let q : length (pages (waiting group)) ≡ length ts = ap length (l.named ∙ take_all (length ts) ts (omega arith)) in omega arith
-  found_from o (Ok None) l = (inr (subst (λ (x : List ℕ). whole x 1 m.shown ≡ false) e (whole_then ∙ l.0)), same_trans m n o s l.1)
-  found_from o (Err f) l = (l.0, same_lost m n o s l.1)
+
+  no_group : (o : Meaning) → whole ts 1 n.shown ≡ false → Same n o → NoGroup T m.shown × Same m o
+  no_group o w l = (inr (subst (λ (x : List ℕ). whole x 1 m.shown ≡ false) e (whole_then ∙ w)), same_trans m n o s l)
+
+  pub found_from : (o : Meaning) (r : Answer) (es : List Entry) → Loaded ts n r es o → Found T m r es o
+  found_from o (Ok _) [] (inl x) = no_group o x.1 x.2
+  found_from o (Ok _) [] (inr l) = (inl (sym e ∙ nil_from_length ts (sym (loaded_len [] o l))), same_trans m n o s l.same)
+  found_from o (Ok _) (x ∷ es) (inl y) = absurd (let z = ap length y.0 in omega arith)
+  found_from o (Ok _) (x ∷ es) (inr l) = when_false (eqb (suc (length es)) 0) _ _ (ne_eqb _ _ (λ z. omega arith)) (group_from (x ∷ es) o (omega arith) l)
+  found_from o (Err f) es l = (l.0, same_lost m n o s l.1)

@@ -1,5 +1,5 @@
 -- A restart: what is read of the group that stands below, and what becomes of it.
-use Rattle.std.specs.Prelude.{◌≡◌, ℕ, ◌+◌, ◌<◌, ◌≤◌, true, false, List, [], length, take, Option, MatchOption, Result, MatchResult, slice_index_or}
+use Rattle.std.specs.Prelude.{◌≡◌, ℕ, ◌+◌, ◌<◌, ◌≤◌, true, false, ◌⊎◌, List, [], length, take, Option, MatchBool, MatchOption, Result, MatchResult, ◌==◌, slice_index_or}
 use Rattle.arrayvec.specs.ArrayVec.{ArrayVec}
 use Rattle.device.specs.declared.DeviceFault.{DeviceFault}
 use Rattle.device.specs.Meaning.{State, bytes, spoiled, Meaning, Alike}
@@ -7,8 +7,7 @@ use Rattle.device.specs.Numbers.{number}
 use Rattle.device.specs.Promises.{Same, Lost}
 use Rattle.device.specs.Calls.{Answer}
 use Rattle.journal.specs.declared.entries.Entry.{Entry}
-use Rattle.journal.specs.declared.entries.Pending.{Pending}
-use Rattle.journal.specs.Waiting.{waiting, pages, blank}
+use Rattle.journal.specs.Waiting.{pages, blank}
 use Rattle.journal.specs.Header.{header}
 use Rattle.journal.specs.Standing.{above, whole, laid, Choice, Ends, home}
 use Rattle.journal.specs.Order.{NoGroup}
@@ -32,9 +31,9 @@ pub record LoadedTo (ts : List ℕ) (k : ℕ) (es : List Entry) (m n : Meaning) 
   pub size : (i : ℕ) → i < length es → length (slice_index_or es i blank).bytes ≡ 252
 
 -- the entries of all targets, or none where a body is spoiled
-abbrev pub Loaded : List ℕ → Meaning → Result (Option Pending) DeviceFault → Meaning → Type 0
-Loaded ts m r n =
-    MatchResult r (λ o. MatchOption o ((whole ts 1 m.shown ≡ false) × Same m n) (λ group. LoadedTo ts (length ts) (waiting group) m n))
+abbrev pub Loaded : List ℕ → Meaning → Answer → List Entry → Meaning → Type 0
+Loaded ts m r es n =
+    MatchResult r (λ _. ((es ≡ []) × (whole ts 1 m.shown ≡ false) × Same m n) ⊎ LoadedTo ts (length ts) es m n)
     (λ e. (number e ≡ 11) × Lost m n)
 
 -- the targets that the header names
@@ -46,10 +45,10 @@ pub record FoundGroup (T : State → List ℕ) (m : Meaning) (es : List Entry) (
   pub some : 0 < length es
   pub group : LoadedTo (T (m.shown 0)) (length (T (m.shown 0))) es m n
 
--- the group that stands, where one does
-abbrev pub Found : (State → List ℕ) → Meaning → Result (Option Pending) DeviceFault → Meaning → Type 0
-Found T m r n =
-    MatchResult r (λ o. MatchOption o (NoGroup T m.shown × Same m n) (λ group. FoundGroup T m (waiting group) n))
+-- the entries of the group that stands; no entry where none does
+abbrev pub Found : (State → List ℕ) → Meaning → Answer → List Entry → Meaning → Type 0
+Found T m r es n =
+    MatchResult r (λ _. MatchBool (length es == 0) (NoGroup T m.shown × Same m n) (FoundGroup T m es n))
     (λ e. (number e ≡ 11) × Lost m n)
 
 -- what clearing the header needs: nothing but what is shown may stand, and no group stands in it

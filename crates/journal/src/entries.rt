@@ -78,10 +78,11 @@ impl Pending {
                 self.entries[at] = entry;
                 Ok(())
             }
-            None => self
-                .entries
-                .try_push(entry)
-                .map_err(|_| DeviceFault::TooManyWaiting),
+            None if self.entries.is_full() => Err(DeviceFault::TooManyWaiting),
+            None => {
+                self.entries.push(entry);
+                Ok(())
+            }
         }
     }
 

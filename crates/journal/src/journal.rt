@@ -159,7 +159,7 @@ impl<D: Device> Journal<D> {
         ensures calls { Calling D.Device.agrees D.Device.meaning restarts self.old result self.new }
         ensures sends { Sending D.Device.agrees D.Device.meaning restarts self.old result self.new }
     {
-        let r = recover(&mut self.below);
+        let r = recover(&mut self.below, &mut self.pending);
         self.revive(r)
     }
 

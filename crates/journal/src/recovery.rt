@@ -1,5 +1,6 @@
 // A restart: the group that stands below is laid over the home pages.
 ghost use Rattle.std.specs.Prelude.{◌≡◌, ◌<◌, true, []};
+ghost use Rattle.journal.specs.Waiting.{waiting};
 ghost use Rattle.journal.specs.Header.{targets};
 ghost use Rattle.journal.specs.Sending.{bare, Makes};
 ghost use Rattle.journal.specs.Over.{reader};
@@ -23,20 +24,21 @@ fn look<D: Device>(below: &mut D, page: usize) -> Result<Option<Page>, DeviceFau
     shown_page(r, bytes)
 }
 
-// The entries of these targets, each with its body; none where a body is spoiled.
-fn load<D: Device>(below: &mut D, named: &Targets) -> Result<Option<Pending>, DeviceFault>
+// Leaves in `group` the entries of these targets, each with its body; none where a body is spoiled.
+fn load<D: Device>(below: &mut D, named: &Targets, group: &mut Pending) -> Result<(), DeviceFault>
     ensures agrees { D.Device.agrees below.old → D.Device.agrees below.new }
-    ensures makes { D.Device.agrees below.old → (D.Device.meaning below.old).runs ≡ true → Makes D.Device.meaning [] (bare result) below.old below.new }
-    ensures loaded { D.Device.agrees below.old → Awake (D.Device.meaning below.old) → Loaded named.now.items (D.Device.meaning below.old) result (D.Device.meaning below.new) }
+    ensures makes { D.Device.agrees below.old → (D.Device.meaning below.old).runs ≡ true → Makes D.Device.meaning [] result below.old below.new }
+    ensures loaded { D.Device.agrees below.old → Awake (D.Device.meaning below.old) → Loaded named.now.items (D.Device.meaning below.old) result (waiting group.new) (D.Device.meaning below.new) }
 {
-    let mut group = Pending::new();
+    group.clear();
     for (j, page) in named.iter().enumerate() {
         let Some(bytes) = look(below, body_page(j))? else {
-            return Ok(None);
+            group.clear();
+            return Ok(());
         };
         group.push(Entry { page: *page, bytes });
     }
-    Ok(Some(group))
+    Ok(())
 }
 
 // The targets that the header names; none where it is spoiled, or names none, which is one case for a restart.
@@ -51,21 +53,23 @@ fn read_header<D: Device>(below: &mut D, count: usize) -> Result<Targets, Device
     }
 }
 
-// The group that stands, where one does.
-fn load_group<D: Device>(below: &mut D, count: usize) -> Result<Option<Pending>, DeviceFault>
+// Leaves in `group` the entries of the group that stands; none where none does.
+fn load_group<D: Device>(
+    below: &mut D,
+    count: usize,
+    group: &mut Pending,
+) -> Result<(), DeviceFault>
     ensures agrees { D.Device.agrees below.old → D.Device.agrees below.new }
-    ensures makes { D.Device.agrees below.old → (D.Device.meaning below.old).runs ≡ true → Makes D.Device.meaning [] (bare result) below.old below.new }
-    ensures found { D.Device.agrees below.old → Awake (D.Device.meaning below.old) → Found (targets count) (D.Device.meaning below.old) result (D.Device.meaning below.new) }
+    ensures makes { D.Device.agrees below.old → (D.Device.meaning below.old).runs ≡ true → Makes D.Device.meaning [] result below.old below.new }
+    ensures found { D.Device.agrees below.old → Awake (D.Device.meaning below.old) → Found (targets count) (D.Device.meaning below.old) result (waiting group.new) (D.Device.meaning below.new) }
 {
     let named = read_header(below, count)?;
-    if named.is_empty() {
-        return Ok(None);
-    }
-    load(below, &named)
+    load(below, &named, group)
 }
 
-// Restarts the device below; then lays the group that stands, or else clears the header alone.
-pub(crate) fn recover<D: Device>(below: &mut D) -> Result<(), DeviceFault>
+// Restarts the device below; then lays the group that stands, or else clears the header alone. The group is read into memory that the
+// caller lends: by value it would be moved, and its room made anew, in each function on the way.
+pub(crate) fn recover<D: Device>(below: &mut D, group: &mut Pending) -> Result<(), DeviceFault>
     ensures agrees { D.Device.agrees below.old → D.Device.agrees below.new }
     ensures makes { D.Device.agrees below.old → Restarting D.Device.meaning below.old result below.new }
     ensures recovered { D.Device.agrees below.old → Recovered (reader (D.Device.meaning below.old)) (D.Device.meaning below.old) result (D.Device.meaning below.new) }
@@ -75,8 +79,9 @@ pub(crate) fn recover<D: Device>(below: &mut D) -> Result<(), DeviceFault>
     if count == 0 {
         return Ok(());
     }
-    match load_group(below, count)? {
-        Some(group) => finish(below, &group),
-        None => clear(below),
+    load_group(below, count, group)?;
+    if group.is_empty() {
+        return clear(below);
     }
+    finish(below, group)
 }

@@ -1,4 +1,4 @@
-use Rattle.std.proofs.Common.{◌≡◌, ℕ, ◌+◌, ◌<◌, ◌≤◌, List, [], ◌∷◌, ◌++◌, length, get_or, Option, Ok, Err, sym, ap, ◌∙◌, subst, rules}
+use Rattle.std.proofs.Common.{◌≡◌, ℕ, ◌+◌, ◌<◌, ◌≤◌, List, [], ◌∷◌, ◌++◌, length, get_or, Option, Ok, Err, sym, ap, ◌∙◌, subst, inl, rules}
 use Rattle.std.proofs.lemmas.List.{length_push}
 use Rattle.std.proofs.lemmas.Result.{err_from_is_err_and}
 use Rattle.journal.specs.declared.entries.Entry.{Entry}
@@ -15,8 +15,8 @@ loop-j-init g c =
     let m = g.D.Device.meaning c.args.below.now in (
       λ h. h,
       λ h t. made_none g.D.Device.meaning c.args.below.now,
-      λ h a. subst (λ (l : List Entry). LoadedTo ts 0 l m m) (sym c.new-group.ensures) (loaded_none ts m few a),
-      ap length c.new-group.ensures,
+      λ h a. subst (λ (l : List Entry). LoadedTo ts 0 l m m) (sym c.clear.ensures) (loaded_none ts m few a),
+      ap length c.clear.ensures,
     )
 
 pub returns-in_err-bytes-clause-makes : goal.returns-in_err-bytes-clause-makes
@@ -46,9 +46,10 @@ returns-in_default g c =
       makes = λ h t. and_then meaning [] [] (Ok tt) a d e t (i.1 h t) (x.makes (i.0 h));
       loaded = λ h aw.
           let l = i.2 h aw in
-          load_broken ts (meaning a) few aw (meaning d) j _ l lt (meaning e)
+          let b = load_broken ts (meaning a) few aw (meaning d) j _ l lt (meaning e)
           (subst (λ (o : Option (List ℕ)). Looked (meaning d) (1 + j) (Ok o) (meaning e)) c.in_default.is
-          (body_looked ts (meaning a) few aw (meaning d) j _ l lt (meaning e) c.body_page.result (Ok c.in_ok-bytes.field-0) c.body_page.ensures (x.looked (i.0 h))));
+          (body_looked ts (meaning a) few aw (meaning d) j _ l lt (meaning e) c.body_page.result (Ok c.in_ok-bytes.field-0) c.body_page.ensures (x.looked (i.0 h)))) in
+          inl (c.clear-in_default.ensures, b.0, b.1);
     }
 
 pub loop-j-preserved : goal.loop-j-preserved

@@ -1,9 +1,9 @@
-use Rattle.std.proofs.Common.{◌≡◌, ℕ, eqb, ◌≢◌, List, [], ◌++◌, Option, Ok, sym, ap, ◌∙◌, subst, inl, inr}
+use Rattle.std.proofs.Common.{◌≡◌, ℕ, Bool, true, false, MatchBool, eqb, ◌≢◌, List, [], ◌++◌, length, Ok, sym, ap, ◌∙◌, subst, inl, inr}
 use Rattle.std.proofs.lemmas.Bool.{ne_eqb}
 use Rattle.device.specs.Meaning.{State, Meaning}
 use Rattle.device.specs.Promises.{Same, RestartDone}
 use Rattle.device.proofs.Whens.{when_false}
-use Rattle.journal.specs.declared.entries.Pending.{Pending}
+use Rattle.journal.specs.declared.entries.Entry.{Entry}
 use Rattle.journal.specs.Waiting.{waiting}
 use Rattle.journal.specs.Header.{targets}
 use Rattle.journal.specs.Standing.{above, home}
@@ -20,8 +20,14 @@ awake : (m n : Meaning) → RestartDone m n → above n.count ≢ 0 → Awake n
 awake m n r pos = record { running = r.ran.still; room = enough n pos }
 
 -- what is found, with the targets read by the count of the pages above
-same_reader : (m n o : Meaning) (k count : ℕ) (group : Option Pending) → RestartDone m n → k ≡ n.count → count ≡ above k → Found (targets count) n (Ok group) o → Found (reader m) n (Ok group) o
-same_reader m n o k count group r e f x = subst (λ (T : State → List ℕ). Found T n (Ok group) o) (ap targets (f ∙ ap above (e ∙ r.ran.count))) x
+same_reader : (m n o : Meaning) (k count : ℕ) (es : List Entry) → RestartDone m n → k ≡ n.count → count ≡ above k → Found (targets count) n (Ok tt) es o → Found (reader m) n (Ok tt) es o
+same_reader m n o k count es r e f x = subst (λ (T : State → List ℕ). Found T n (Ok tt) es o) (ap targets (f ∙ ap above (e ∙ r.ran.count))) x
+
+found_none : (T : State → List ℕ) (m o : Meaning) (es : List Entry) → eqb (length es) 0 ≡ true → Found T m (Ok tt) es o → NoGroup T m.shown × Same m o
+found_none T m o es e x = subst (λ (b : Bool). MatchBool b (NoGroup T m.shown × Same m o) (FoundGroup T m es o)) e x
+
+found_some : (T : State → List ℕ) (m o : Meaning) (es : List Entry) → eqb (length es) 0 ≡ false → Found T m (Ok tt) es o → FoundGroup T m es o
+found_some T m o es e x = subst (λ (b : Bool). MatchBool b (NoGroup T m.shown × Same m o) (FoundGroup T m es o)) e x
 
 pub returns-then-count-eq0-clause-recovered : goal.returns-then-count-eq0-clause-recovered
 returns-then-count-eq0-clause-recovered g c =
@@ -30,10 +36,10 @@ returns-then-count-eq0-clause-recovered g c =
     let x = c.restart.new.self in
     λ h. none_above (meaning c.args.below.now) (meaning x) (does h).means (sym (ap above c.page_count.ensures) ∙ sym c.pages_above-count.ensures ∙ c.if-count-eq0.true)
 
-pub returns-in-Some : goal.returns-in-Some
-returns-in-Some g c =
+pub returns : goal.returns
+returns g c =
     let does = c.in_ok-restart.ensures.does in
-    let q = c.in_ok-group.ensures in
+    let q = c.in_ok-load_group.ensures in
     let z = c.finish.ensures in
     let agrees = g.D.Device.agrees in
     let meaning = g.D.Device.meaning in
@@ -41,12 +47,12 @@ returns-in-Some g c =
     let x = c.restart.new.self in
     let o = c.load_group.new.below in
     let e = c.finish.new.below in
-    let es = waiting c.in-Some.group in
+    let es = waiting c.load_group.new.group in
     let r = c.finish.result in
     let pos : above (meaning x).count ≢ 0 = λ z. c.if-count-eq0.false (c.pages_above-count.ensures ∙ ap above c.page_count.ensures ∙ z) in
     let found : (h : agrees a) → FoundGroup (reader (meaning a)) (meaning x) es (meaning o) = λ h.
-    subst (λ (b : Option Pending). Found (reader (meaning a)) (meaning x) (Ok b) (meaning o)) c.in-Some.is
-    (same_reader (meaning a) (meaning x) (meaning o) c.page_count.result c.pages_above-count.result c.in_ok-group.field-0 (does h).means c.page_count.ensures c.pages_above-count.ensures
+    found_some (reader (meaning a)) (meaning x) (meaning o) es (sym c.is_empty.ensures ∙ c.if-is_empty.false)
+    (same_reader (meaning a) (meaning x) (meaning o) c.page_count.result c.pages_above-count.result es (does h).means c.page_count.ensures c.pages_above-count.ensures
     (q.found (does h).agrees (awake (meaning a) (meaning x) (does h).means pos))) in
     record {
       agrees = λ h. z.agrees (q.agrees (does h).agrees);
@@ -71,22 +77,23 @@ returns-in-Some g c =
           (z.finished (q.agrees (does h).agrees) (reader (meaning a)) (home (meaning o)) (lay_ready (meaning a) (meaning x) (meaning o) (does h).means so pos es (found h)));
     }
 
-pub returns-in-None : goal.returns-in-None
-returns-in-None g c =
+pub returns-then-is_empty : goal.returns-then-is_empty
+returns-then-is_empty g c =
     let does = c.in_ok-restart.ensures.does in
-    let q = c.in_ok-group.ensures in
+    let q = c.in_ok-load_group.ensures in
     let z = c.clear.ensures in
     let agrees = g.D.Device.agrees in
     let meaning = g.D.Device.meaning in
     let a = c.args.below.now in
     let x = c.restart.new.self in
     let o = c.load_group.new.below in
+    let es = waiting c.load_group.new.group in
     let e = c.clear.new.below in
     let r = c.clear.result in
     let pos : above (meaning x).count ≢ 0 = λ z. c.if-count-eq0.false (c.pages_above-count.ensures ∙ ap above c.page_count.ensures ∙ z) in
     let found : (h : agrees a) → NoGroup (reader (meaning a)) (meaning x).shown × Same (meaning x) (meaning o) = λ h.
-    subst (λ (b : Option Pending). Found (reader (meaning a)) (meaning x) (Ok b) (meaning o)) c.in-None.is
-    (same_reader (meaning a) (meaning x) (meaning o) c.page_count.result c.pages_above-count.result c.in_ok-group.field-0 (does h).means c.page_count.ensures c.pages_above-count.ensures
+    found_none (reader (meaning a)) (meaning x) (meaning o) es (sym c.is_empty.ensures ∙ c.if-is_empty.true)
+    (same_reader (meaning a) (meaning x) (meaning o) c.page_count.result c.pages_above-count.result es (does h).means c.page_count.ensures c.pages_above-count.ensures
     (q.found (does h).agrees (awake (meaning a) (meaning x) (does h).means pos))) in
     record {
       agrees = λ h. z.agrees (q.agrees (does h).agrees);

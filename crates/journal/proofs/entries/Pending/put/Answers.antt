@@ -18,4 +18,7 @@ returns-in-Some c =
     (put_old v.items c.args.page c.args.buf.now k cc)
 
 pub returns-in-None : goal.returns-in-None
-returns-in-None c = grind (arith, common_steps, put_new, put_full)
+returns-in-None c = grind (arith, common_steps, put_full)
+
+pub returns-in-None-2 : goal.returns-in-None-2
+returns-in-None-2 c = grind (arith, common_steps, put_new)
