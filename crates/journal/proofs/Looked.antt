@@ -5,13 +5,12 @@ use Rattle.std.proofs.lemmas.Bool.{cases_eq, ne_eqb, and_left, and_right}
 use Rattle.device.specs.declared.DeviceFault.{DeviceFault}
 use Rattle.device.specs.Meaning.{State, bytes, spoiled, Meaning}
 use Rattle.device.specs.Promises.{Same, Lost}
-use Rattle.device.specs.Calls.{Answer, shown_page, lost}
+use Rattle.device.specs.Calls.{Answer}
 use Rattle.device.proofs.Meanings.{same_self, same_trans}
 use Rattle.device.proofs.Whens.{when_false}
 use Rattle.journal.specs.declared.entries.Entry.{Entry}
 use Rattle.journal.specs.Waiting.{pages, blank}
 use Rattle.journal.specs.Standing.{is_bytes, whole}
-use Rattle.journal.specs.Sending.{bare}
 use Rattle.journal.specs.Order.{NoGroup}
 use Rattle.journal.specs.Recovery.{Awake, Looked, LoadedTo, Loaded, FoundGroup, Found}
 use Rattle.journal.specs.Sound.{pages_length}
@@ -26,10 +25,6 @@ same_lost m n o a b = let c = a.count in record {
 
 pub awake_same : (m n : Meaning) → Same m n → Awake m → Awake n
 awake_same m n s a = record { running = s.runs ∙ a.running; room = let c = s.count in let r = a.room in omega arith }
-
--- a read of one page
-pub look_lost : (r : Answer) (buf : List ℕ) → lost r ≡ lost (bare (shown_page r buf))
-look_lost r buf = grind arith
 
 -- a spoiled body is no group's
 whole_broken : (ts : List ℕ) (k j : ℕ) (f : ℕ → State) → j < length ts → f (k + j) ≡ spoiled → whole ts k f ≡ false
