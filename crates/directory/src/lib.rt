@@ -1,7 +1,7 @@
 //! The entries of a store's directory, and what a change does to them.
 #![tactic(auto)]
 
-ghost use Rattle.std.specs.Prelude.{◌≡◌, ℕ, ◌≤◌, IsErr, OnErr, MatchBool, MatchResult};
+ghost use Rattle.std.specs.Prelude.{◌≡◌, ℕ, ◌≤◌, None, IsErr, OnErr, MatchBool, MatchOption, MatchResult};
 ghost use Rattle.directory.specs.Names.{at};
 ghost use Rattle.directory.specs.Laws.{PagesTaken};
 ghost use Rattle.directory.specs.Changes.{MergeFits, Merged, Merging, NarrowedTo, Narrowest, Split, SplitFits, SplitTo, Splitting, TooFew, WidenedTo};
@@ -82,6 +82,40 @@ impl Directory {
             self.depth = bits;
         }
     }
+}
+
+// Over entries and a depth as a caller holds them: these answer for every depth, where a `Directory` has at most 8 bits.
+
+/// The entries after the bucket of `hash`, of `bits` bits, was split down to `target` bits: the new depth; none, and no change, where there are not enough free pages.
+pub fn split(
+    entries: &mut [u16; 256],
+    depth: u8,
+    limit: u16,
+    hash: u32,
+    bits: u8,
+    target: u8,
+) -> Option<u8>
+    ensures split { (d : ℕ → ℕ) → Splitting depth limit hash bits target (at entries.old) d → MatchOption result (TooFew depth limit bits target (at entries.old)) (λ v. Split depth v limit hash bits target (at entries.old) d (at entries.new)) }
+    ensures unfit { (SplitFits depth limit bits target → ⊥) → (result ≡ None) × (entries.new ≡ entries.old) }
+    ensures kept { (result ≡ None) → entries.new ≡ entries.old }
+{
+    let mut after = Directory::new(*entries, depth)?;
+    after.split(limit, hash, bits, target).ok()?;
+    *entries = after.entries;
+    Some(after.depth)
+}
+
+/// The entries after all buckets below the first `bits` bits of `hash` were merged into `page`: the new depth.
+pub fn merge(entries: &mut [u16; 256], depth: u8, hash: u32, bits: u8, page: u16) -> u8
+    ensures merged { (d : ℕ → ℕ) → Merging depth hash bits page (at entries.old) d → Merged depth result hash bits page (at entries.old) d (at entries.new) }
+    ensures unfit { (MergeFits depth bits → ⊥) → (result ≡ depth) × (entries.new ≡ entries.old) }
+{
+    let Some(mut directory) = Directory::new(*entries, depth) else {
+        return depth;
+    };
+    directory.merge(hash, bits, page);
+    *entries = directory.entries;
+    directory.depth
 }
 
 /// The law of the pages that a directory names. Answers the lowest page that may be a bucket.
