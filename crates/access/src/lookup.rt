@@ -32,17 +32,17 @@ fn home_page<D: GroupDevice, K: KeyRule>(
 ) -> Result<Option<usize>, DeviceFault>
     ensures { 5 < (D.Device.meaning device.old).count → Looks D.Device.agrees D.Device.meaning D.GroupDevice.grouped 2 device.old result device.new (λ n f o. AllMet K.KeyRule.rule n f → o ≡ Some (entry f (pre 32 hash (root f).depth))) }
 {
-    let Some(page) = read_page(device, 0)? else {
+    let Some(page) = &read_page(device, 0)? else {
         return Ok(None);
     };
-    let Some(root) = pages::read_root(&page) else {
+    let Some(root) = pages::read_root(page) else {
         return Ok(None);
     };
     let i = tree::prefix(hash, u32::from(root.depth.min(8)));
-    let Some(entries) = read_page(device, 1 + (i / 64) as usize)? else {
+    let Some(entries) = &read_page(device, 1 + (i / 64) as usize)? else {
         return Ok(None);
     };
-    Ok(Some(usize::from(pages::entry_of(&entries, i as u8))))
+    Ok(Some(usize::from(pages::entry_of(entries, i as u8))))
 }
 
 /// Looks a key up in a bucket's page, and puts the value of its record at the front of the buffer.
@@ -79,8 +79,8 @@ pub fn look_up<D: GroupDevice, K: KeyRule>(
     let Some(home) = home_page::<D, K>(device, K::hash(key))? else {
         return Ok(None);
     };
-    let Some(page) = read_page(device, home)? else {
+    let Some(page) = &read_page(device, home)? else {
         return Ok(None);
     };
-    Ok(copy_found::<K>(&page, key, buf))
+    Ok(copy_found::<K>(page, key, buf))
 }

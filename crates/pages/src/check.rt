@@ -37,10 +37,10 @@ fn check_root<D: GroupDevice, K: KeyRule>(device: &mut D) -> Result<Option<Root>
     ensures deep { IfOk result (λ o. IfSome o (λ x. x.depth ≤ 8)) }
 {
     let count = device.page_count();
-    let Some(page) = read_page(device, 0)? else {
+    let Some(page) = &read_page(device, 0)? else {
         return Ok(None);
     };
-    let Some(found) = root::read_root(&page) else {
+    let Some(found) = root::read_root(page) else {
         return Ok(None);
     };
     if !root_fits(found, K::kind(), count) {
@@ -95,13 +95,13 @@ fn read_directory<D: GroupDevice>(device: &mut D) -> Result<Option<[u16; 256]>, 
 {
     let mut pages = [[0u8; PAGE_SIZE]; 4];
     for (j, slot) in pages.iter_mut().enumerate() {
-        let Some(page) = read_page(device, 1 + j)? else {
+        let Some(page) = &read_page(device, 1 + j)? else {
             return Ok(None);
         };
-        if !directory::is_directory(&page) {
+        if !directory::is_directory(page) {
             return Ok(None);
         }
-        *slot = page;
+        *slot = *page;
     }
     Ok(Some(array::from_fn(|i| { directory::entry_at(&pages[i / 64], i % 64) })))
 }
@@ -128,10 +128,10 @@ fn read_named<D: GroupDevice, K: KeyRule>(
     requires { i < 2 ^ layout.now.root.depth }
     ensures { at layout.now.entries i < (D.Device.meaning device.old).count → Looks D.Device.agrees D.Device.meaning D.GroupDevice.grouped 1 device.old result device.new (λ n f o. MatchOption o (NoBucket K.KeyRule.rule.valid (shows (f (at layout.now.entries i)))) (λ b. Paged K.KeyRule.rule (shows (f (at layout.now.entries i))) layout.now.root.depth i b)) }
 {
-    let Some(page) = read_page(device, usize::from(layout.entries[i]))? else {
+    let Some(page) = &read_page(device, usize::from(layout.entries[i]))? else {
         return Ok(None);
     };
-    let Some(found) = bucket::read_bucket::<K>(&page) else {
+    let Some(found) = bucket::read_bucket::<K>(page) else {
         return Ok(None);
     };
     let count = records::count_records(found.records);
