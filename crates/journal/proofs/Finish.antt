@@ -5,7 +5,7 @@ use Rattle.std.proofs.lemmas.Bool.Decides.{nat_tests}
 use Rattle.device.specs.Meaning.{State, bytes, Meaning, Sound, Alike, has}
 use Rattle.device.specs.Promises.{GainsAt, WriteDone, SyncDone}
 use Rattle.device.specs.Calls.{Answer}
-use Rattle.journal.specs.declared.entries.Entry.{Entry}
+use Rattle.journal.specs.Entries.{Entry}
 use Rattle.journal.specs.declared.places.Area.TheVariants.{Body, Home}
 use Rattle.journal.specs.Waiting.{blank, pages}
 use Rattle.journal.specs.Header.{header}

@@ -2,7 +2,7 @@
 use Rattle.std.proofs.Common.{ℕ, Bool, List}
 use Rattle.device.specs.Meaning.{State, Meaning}
 use Rattle.device.specs.Calls.{Answer, Call, GroupStep}
-use Rattle.journal.specs.declared.entries.Entry.{Entry}
+use Rattle.journal.specs.Entries.{Entry}
 use Rattle.journal.specs.Standing.{journal, journal_group}
 use Rattle.journal.specs.Over.{Agrees}
 

@@ -6,7 +6,7 @@ use Rattle.device.specs.Meaning.{State, bytes, spoiled, has, Meaning, Sound, Sou
 use Rattle.device.specs.Promises.{Passes, WriteDone}
 use Rattle.device.specs.Calls.{reads, writes, discards}
 use Rattle.device.proofs.Meanings.{same_self, same_group_self}
-use Rattle.journal.specs.declared.entries.Entry.{Entry}
+use Rattle.journal.specs.Entries.{Entry}
 use Rattle.journal.specs.Waiting.{pages, held, with_page, PutDone, PutFull}
 use Rattle.journal.specs.Standing.{above, laid, Ends, home, journal, journal_group}
 use Rattle.journal.specs.Over.{Agrees}

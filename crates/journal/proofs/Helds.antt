@@ -7,7 +7,7 @@ use Rattle.std.proofs.lemmas.Bool.Decides.{nat_tests}
 use Rattle.std.proofs.lemmas.List.Sums.{fails_before_first}
 use Rattle.std.proofs.lemmas.List.Quantifiers.{position-Some}
 use Rattle.device.specs.Meaning.{State, bytes, has}
-use Rattle.journal.specs.declared.entries.Entry.{Entry}
+use Rattle.journal.specs.Entries.{Entry}
 use Rattle.journal.specs.Waiting.{blank, pages, held, place, look_up}
 
 pub has_later : (es : List Entry) (p j : ℕ) → j < length es → (get_or es j blank).page ≡ p → has p (pages es) ≡ true

@@ -13,7 +13,7 @@ use Rattle.device.proofs.GateLaws.{gate_read, gate_write, gate_calls}
 use Rattle.device.proofs.Meanings.{leaves_self, lost_self, no_end_self}
 use Rattle.device.proofs.Whens.{when_true, when_false, either_way}
 use Rattle.journal.specs.declared.journal.Journal.{Journal}
-use Rattle.journal.specs.declared.entries.Entry.{Entry}
+use Rattle.journal.specs.Entries.{Entry}
 use Rattle.journal.specs.declared.entries.Pending.{Pending}
 use Rattle.journal.specs.Waiting.{waiting, pages, PutDone, PutFull, Put, Heard, Revived}
 use Rattle.journal.specs.Header.{targets}

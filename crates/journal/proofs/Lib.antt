@@ -3,6 +3,7 @@ pub mod Parsing
 pub mod Targets
 pub mod Helds
 pub mod Puts
+pub mod Joined
 pub mod Sent
 pub mod Written
 pub mod Finish

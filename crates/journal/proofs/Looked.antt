@@ -8,7 +8,7 @@ use Rattle.device.specs.Promises.{Same, Lost}
 use Rattle.device.specs.Calls.{Answer}
 use Rattle.device.proofs.Meanings.{same_self, same_trans}
 use Rattle.device.proofs.Whens.{when_false}
-use Rattle.journal.specs.declared.entries.Entry.{Entry}
+use Rattle.journal.specs.Entries.{Entry}
 use Rattle.journal.specs.Waiting.{pages, blank}
 use Rattle.journal.specs.Standing.{is_bytes, whole}
 use Rattle.journal.specs.Order.{NoGroup}

@@ -11,7 +11,7 @@ use Rattle.arrayvec.specs.ArrayVec.{ArrayVec}
 use Rattle.layout.specs.Envelope.{envelope, Enveloped, body_part, same}
 use Rattle.layout.proofs.Envelopes.{envelope_inj, envelope_length, body_part-envelope, same_true, same_self}
 use Rattle.device.specs.Meaning.{bytes, has}
-use Rattle.journal.specs.declared.entries.Entry.{Entry}
+use Rattle.journal.specs.Entries.{Entry}
 use Rattle.journal.specs.Waiting.{pages}
 use Rattle.journal.specs.Header.{two_bytes, pairs, Numbers, header, once, names, named, targets}
 use Rattle.journal.proofs.Targets.{pairs_back}

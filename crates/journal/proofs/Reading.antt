@@ -6,7 +6,7 @@ use Rattle.device.specs.Meaning.{State, Meaning}
 use Rattle.device.specs.Promises.{Same, Lost, NoGain, Passes, Read}
 use Rattle.device.specs.GroupPromises.{NoEnd, SameGroup}
 use Rattle.device.specs.Calls.{Answer, reads, lost}
-use Rattle.journal.specs.declared.entries.Entry.{Entry}
+use Rattle.journal.specs.Entries.{Entry}
 use Rattle.journal.specs.Waiting.{held, AllFit}
 use Rattle.journal.specs.Standing.{above, home, journal, journal_group}
 use Rattle.journal.specs.Over.{Agrees}

@@ -6,7 +6,7 @@ use Rattle.std.proofs.lemmas.Bool.Decides.{nat_tests}
 use Rattle.device.specs.Meaning.{State, bytes, spoiled, Meaning, Sound, Distinct}
 use Rattle.device.specs.Promises.{Same, RestartDone}
 use Rattle.device.specs.Calls.{Answer}
-use Rattle.journal.specs.declared.entries.Entry.{Entry}
+use Rattle.journal.specs.Entries.{Entry}
 use Rattle.journal.specs.Waiting.{blank, pages, AllFit}
 use Rattle.layout.specs.Envelope.{body_part}
 use Rattle.journal.specs.Header.{pairs, header, all_below, distinct, once, named, targets}

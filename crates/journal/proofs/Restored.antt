@@ -3,7 +3,7 @@ use Rattle.std.proofs.Common.{◌≡◌, ℕ, ◌+◌, ◌<◌, Bool, List, [], 
 use Rattle.std.proofs.lemmas.Bool.{both_ways}
 use Rattle.device.specs.Meaning.{State, Meaning, Sound}
 use Rattle.device.specs.Calls.{Answer, restarts}
-use Rattle.journal.specs.declared.entries.Entry.{Entry}
+use Rattle.journal.specs.Entries.{Entry}
 use Rattle.journal.specs.Standing.{above, laid, home}
 use Rattle.journal.specs.Waiting.{Revived}
 use Rattle.journal.specs.Steps.{bodies, Settled}

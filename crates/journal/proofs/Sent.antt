@@ -5,7 +5,7 @@ use Rattle.device.specs.declared.DeviceFault.{DeviceFault}
 use Rattle.device.specs.Meaning.{Meaning}
 use Rattle.device.specs.Calls.{Answer, Call, writes, Step, always, lost, Calls, none, more, DeviceCalls}
 use Rattle.device.proofs.Still.{calls_still}
-use Rattle.journal.specs.declared.entries.Entry.{Entry}
+use Rattle.journal.specs.Entries.{Entry}
 use Rattle.journal.specs.declared.places.Area.{Area}
 use Rattle.journal.specs.Waiting.{blank}
 use Rattle.journal.specs.Sending.{unread, changes, Front, Makes, page_of, placed}
@@ -62,23 +62,23 @@ module _ {D : Type 0} (meaning : D → Meaning) where
   looked_on r s d e h m = from_reads s d e (subst (λ (b : Bool). (c : DeviceCalls meaning b d e) × (changes c ≡ [])) h (only_reads r d e m))
 
 -- the entries, written one after another
-placed_push : (area : Area) (j : ℕ) (es : List Entry) (e : Entry) → placed area j (es ++ e ∷ []) ≡ placed area j es ++ writes (page_of area (j + length es) e) e.bytes ∷ []
-placed_push area j [] e = ap (λ (k : ℕ). writes (page_of area k e) e.bytes ∷ []) (let z : j ≡ j + 0 = omega arith in z)
-placed_push area j (d ∷ es) e = ap (λ (l : List Call). writes (page_of area j d) d.bytes ∷ l)
-    (placed_push area (suc j) es e ∙ ap (λ (k : ℕ). placed area (suc j) es ++ writes (page_of area k e) e.bytes ∷ []) (let z : suc j + length es ≡ j + suc (length es) = omega arith in z))
+placed_push : (area : Area) (j : ℕ) (es : List Entry) (e : Entry) → placed area j (es ++ e ∷ []) ≡ placed area j es ++ writes (page_of area (j + length es) e.page) e.bytes ∷ []
+placed_push area j [] e = ap (λ (k : ℕ). writes (page_of area k e.page) e.bytes ∷ []) (let z : j ≡ j + 0 = omega arith in z)
+placed_push area j (d ∷ es) e = ap (λ (l : List Call). writes (page_of area j d.page) d.bytes ∷ l)
+    (placed_push area (suc j) es e ∙ ap (λ (k : ℕ). placed area (suc j) es ++ writes (page_of area k e.page) e.bytes ∷ []) (let z : suc j + length es ≡ j + suc (length es) = omega arith in z))
 
 pub placed_more : (area : Area) (es : List Entry) (j : ℕ) → j < length es
-    → placed area 0 (take j es) ++ writes (page_of area j (get_or es j blank)) (get_or es j blank).bytes ∷ [] ≡ placed area 0 (take (j + 1) es)
+    → placed area 0 (take j es) ++ writes (page_of area j (get_or es j blank).page) (get_or es j blank).bytes ∷ [] ≡ placed area 0 (take (j + 1) es)
 placed_more area es j lt =
     let t = length-take-le j es (omega arith) in
     let l : 0 + length (take j es) ≡ j = omega arith in
     sym (ap (placed area 0) (take_more es j blank lt) ∙ placed_push area 0 (take j es) (get_or es j blank)
-    ∙ ap (λ (k : ℕ). placed area 0 (take j es) ++ writes (page_of area k (get_or es j blank)) (get_or es j blank).bytes ∷ []) l)
+    ∙ ap (λ (k : ℕ). placed area 0 (take j es) ++ writes (page_of area k (get_or es j blank).page) (get_or es j blank).bytes ∷ []) l)
 
 placed_split : (area : Area) (j k : ℕ) (es : List Entry) → placed area j es ≡ placed area j (take k es) ++ placed area (j + k) (drop k es)
 placed_split area j zero es = ap (λ (i : ℕ). placed area i es) (let z : j ≡ j + 0 = omega arith in z)
 placed_split area j (suc k) [] = refl
-placed_split area j (suc k) (e ∷ es) = ap (λ (l : List Call). writes (page_of area j e) e.bytes ∷ l)
+placed_split area j (suc k) (e ∷ es) = ap (λ (l : List Call). writes (page_of area j e.page) e.bytes ∷ l)
     (placed_split area (suc j) k es ∙ ap (λ (i : ℕ). placed area (suc j) (take k es) ++ placed area i (drop k es)) (let z : suc j + k ≡ j + suc k = omega arith in z))
 
 -- those that were written are the front part of all

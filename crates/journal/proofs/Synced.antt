@@ -5,7 +5,7 @@ use Rattle.device.specs.Meaning.{State, bytes, Meaning, Sound}
 use Rattle.device.specs.Numbers.{number}
 use Rattle.device.specs.Calls.{Answer, syncs, lost}
 use Rattle.device.proofs.Whens.{when_true}
-use Rattle.journal.specs.declared.entries.Entry.{Entry}
+use Rattle.journal.specs.Entries.{Entry}
 use Rattle.journal.specs.Waiting.{blank, pages, held}
 use Rattle.journal.specs.Standing.{above, over, home}
 use Rattle.journal.specs.Crash.{fresh}

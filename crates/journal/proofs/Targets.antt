@@ -4,7 +4,7 @@ use Rattle.std.proofs.lemmas.Bool.{cond-true, le-leb, lt-ltb, and_from, not_from
 use Rattle.layout.specs.Envelope.{body_part, same}
 use Rattle.layout.proofs.Envelopes.{body_part-envelope, same_self}
 use Rattle.device.specs.Meaning.{bytes, Distinct}
-use Rattle.journal.specs.declared.entries.Entry.{Entry}
+use Rattle.journal.specs.Entries.{Entry}
 use Rattle.journal.specs.Waiting.{pages, AllFit}
 use Rattle.journal.specs.Header.{two_bytes, pairs, header, all_below, distinct, once, names, named, targets}
 use Rattle.journal.specs.Sound.{pages_length}

@@ -1,13 +1,14 @@
 -- One write after another, and the sync behind them; the header, and the sync behind it.
 use Rattle.std.proofs.Common.{◌≡◌, ℕ, ◌+◌, ◌<◌, List, length, get_or, sym, refl, ◌∙◌, subst, inl, inr, ⊎_elim, arith}
 use Rattle.std.proofs.lemmas.Bool.{cases_eq}
+use Rattle.std.proofs.lemmas.Bool.Decides.{nat_tests}
 use Rattle.device.specs.Meaning.{bytes, Meaning, Sound}
-use Rattle.device.specs.Promises.{WriteDone, GainsAt}
+use Rattle.device.specs.Promises.{WriteDone, WriteLost, WriteRefused, GainsAt}
 use Rattle.device.proofs.Waits.{one_more}
-use Rattle.journal.specs.declared.entries.Entry.{Entry}
+use Rattle.journal.specs.Entries.{Entry}
 use Rattle.journal.specs.declared.places.Area.{Area}
 use Rattle.journal.specs.Waiting.{blank}
-use Rattle.journal.specs.Writing.{spot, Ready, OnlySpots, Wrote}
+use Rattle.journal.specs.Writing.{spot, Ready, OnlySpots, Wrote, WroteLost}
 
 pub wrote_none : (area : Area) (es : List Entry) (m : Meaning) → Ready area es m → Wrote area es 0 m m
 wrote_none area es m r = record {
@@ -38,3 +39,11 @@ module _ (area : Area) (es : List Entry) (k : ℕ) (m n o : Meaning) (r : Ready 
         (cases_eq j k);
     others = λ p h ne. d.others p (let b = w.count in omega arith) (ne k (omega arith)) ∙ w.others p h (λ j q. ne j (omega arith));
   }
+
+  -- the next write can only be answered 11
+  pub wrote_lost : (f : ℕ) → WriteRefused n (spot area es k) (get_or es k blank).bytes f o → (f ≡ 11) × WroteLost area es m o
+  wrote_lost f x =
+      let within = r.within k l in
+      let sized = r.sized k l in
+      let q : (f ≡ 11) × WriteLost n (spot area es k) (get_or es k blank).bytes o = grind (arith, nat_tests) in
+      (q.0, record { left = record { count = q.1.left.count ∙ w.count; down = q.1.left.down }; gains = step_gains q.1.left.count (length es) l q.1.gains })

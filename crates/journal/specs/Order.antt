@@ -3,7 +3,7 @@ use Rattle.std.specs.Prelude.{◌≡◌, ℕ, ◌+◌, ◌<◌, true, false, ◌
 use Rattle.device.specs.Meaning.{State, bytes, has, Meaning}
 use Rattle.device.specs.Calls.{Answer, Call, reads, writes, syncs, restarts, discards, Step, always, lost}
 use Rattle.journal.specs.declared.journal.Journal.{Journal}
-use Rattle.journal.specs.declared.entries.Entry.{Entry}
+use Rattle.journal.specs.Entries.{Entry}
 use Rattle.journal.specs.Waiting.{waiting, blank, pages}
 use Rattle.journal.specs.Standing.{above, whole}
 use Rattle.journal.specs.Sending.{Makes, step1, step2, step3, step4}

@@ -4,7 +4,7 @@ use Rattle.device.specs.Meaning.{State, spoiled, Distinct, Meaning, Grouped}
 use Rattle.device.specs.Calls.{Answer, Call, DeviceCalls, Over}
 use Rattle.device.specs.Clauses.{Does, GroupDoes}
 use Rattle.journal.specs.declared.journal.Journal.{Journal}
-use Rattle.journal.specs.declared.entries.Entry.{Entry}
+use Rattle.journal.specs.Entries.{Entry}
 use Rattle.journal.specs.Waiting.{waiting, pages, AllFit}
 use Rattle.journal.specs.Header.{targets}
 use Rattle.journal.specs.Standing.{above, home, journal, journal_group}

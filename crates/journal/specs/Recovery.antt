@@ -6,7 +6,7 @@ use Rattle.device.specs.Meaning.{State, bytes, spoiled, Meaning, Alike}
 use Rattle.device.specs.Numbers.{number}
 use Rattle.device.specs.Promises.{Same, Lost}
 use Rattle.device.specs.Calls.{Answer}
-use Rattle.journal.specs.declared.entries.Entry.{Entry}
+use Rattle.journal.specs.Entries.{Entry}
 use Rattle.journal.specs.Waiting.{pages, blank}
 use Rattle.journal.specs.Header.{header}
 use Rattle.journal.specs.Standing.{above, whole, laid, Choice, Ends, home}

@@ -3,7 +3,7 @@ use Rattle.std.specs.Prelude.{◌≡◌, ℕ, suc, ◌+◌, Bool, List, [], ◌�
 use Rattle.device.specs.declared.DeviceFault.{DeviceFault}
 use Rattle.device.specs.Meaning.{Meaning}
 use Rattle.device.specs.Calls.{Answer, Call, reads, writes, syncs, restarts, discards, lost, Calls, none, more, DeviceCalls}
-use Rattle.journal.specs.declared.entries.Entry.{Entry}
+use Rattle.journal.specs.Entries.{Entry}
 use Rattle.journal.specs.declared.places.Area.{Area}
 use Rattle.journal.specs.declared.places.Area.TheVariants.{Body, Home}
 use Rattle.journal.specs.Waiting.{pages}
@@ -36,15 +36,15 @@ abbrev pub bare : {A : Type 0} → Result A DeviceFault → Answer
 bare (Ok _) = Ok tt
 bare (Err e) = Err e
 
--- the page below that entry j is written to: body j, or its home page
-abbrev pub page_of : Area → ℕ → Entry → ℕ
-page_of Body j e = 1 + j
-page_of Home j e = 65 + e.page
+-- the page below that entry j, of page p above, is written to: body j, or its home page
+abbrev pub page_of : Area → ℕ → ℕ → ℕ
+page_of Body j p = 1 + j
+page_of Home j p = 65 + p
 
 -- the entries from the j-th on, each written to its page
 abbrev pub placed : Area → ℕ → List Entry → List Call
 placed area j [] = []
-placed area j (e ∷ es) = writes (page_of area j e) e.bytes ∷ placed area (suc j) es
+placed area j (e ∷ es) = writes (page_of area j e.page) e.bytes ∷ placed area (suc j) es
 
 -- the entries as bodies or at their home pages, and a sync
 abbrev pub settling : Area → List Entry → List Call

@@ -4,7 +4,7 @@ use Rattle.std.proofs.Common.{sym, ap, subst, ◌∙◌, inl, inr, ⊎_elim, ari
 use Rattle.std.proofs.lemmas.Bool.{eqb-true, cases_Bool, cases_lt, cond-true, cond-false, and_parts, leb-true, false≢true}
 use Rattle.device.specs.Meaning.{State, bytes, spoiled, has, Meaning, Sound}
 use Rattle.journal.specs.declared.journal.Journal.{Journal}
-use Rattle.journal.specs.declared.entries.Entry.{Entry}
+use Rattle.journal.specs.Entries.{Entry}
 use Rattle.journal.specs.Waiting.{waiting, pages, held, AllFit}
 use Rattle.layout.specs.Envelope.{body_part, same}
 use Rattle.journal.specs.Header.{pairs, header, once, names, named, targets}

@@ -1,7 +1,7 @@
 -- A group that stands in an image of the device below, what it lays over the home pages, and what the journal means.
 use Rattle.std.specs.Prelude.{◌≡◌, ℕ, suc, ◌+◌, ◌-◌, ◌<◌, min, Bool, true, false, cond, ◌&&◌, ◌⊎◌, List, [], ◌∷◌, ◌==◌}
 use Rattle.device.specs.Meaning.{State, bytes, spoiled, Meaning, Grouped, Alike}
-use Rattle.journal.specs.declared.entries.Entry.{Entry}
+use Rattle.journal.specs.Entries.{Entry}
 use Rattle.journal.specs.Waiting.{pages, held}
 
 -- how many pages there are above, over a device of so many

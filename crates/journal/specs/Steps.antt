@@ -4,7 +4,7 @@ use Rattle.device.specs.Meaning.{State, bytes, spoiled, Meaning, Alike}
 use Rattle.device.specs.Numbers.{number}
 use Rattle.device.specs.Promises.{Down, Ran}
 use Rattle.device.specs.Calls.{Answer}
-use Rattle.journal.specs.declared.entries.Entry.{Entry}
+use Rattle.journal.specs.Entries.{Entry}
 use Rattle.journal.specs.declared.places.Area.TheVariants.{Home}
 use Rattle.journal.specs.Waiting.{blank, pages}
 use Rattle.journal.specs.Header.{header}

@@ -4,12 +4,18 @@ use Rattle.std.specs.List.{find}
 use Rattle.device.specs.declared.DeviceFault.TheVariants.{TooManyWaiting}
 use Rattle.device.specs.Meaning.{State, bytes, has}
 use Rattle.device.specs.Calls.{Answer, lost}
-use Rattle.journal.specs.declared.entries.Entry.{Entry}
+use Rattle.journal.specs.Entries.{Entry}
 use Rattle.journal.specs.declared.entries.Pending.{Pending}
+
+-- each page with the bytes at its place
+abbrev pub joined : List ℕ → List (List ℕ) → List Entry
+joined [] bs = []
+joined (p ∷ ps) [] = []
+joined (p ∷ ps) (b ∷ bs) = record { page = p; bytes = b } ∷ joined ps bs
 
 -- the entries that wait
 abbrev pub waiting : Pending → List Entry
-waiting p = p.entries.items
+waiting p = joined p.pages.items p.bytes
 
 -- what stands for an entry behind the last one
 abbrev pub blank : Entry

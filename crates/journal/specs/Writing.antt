@@ -4,14 +4,14 @@ use Rattle.device.specs.Meaning.{State, bytes, Meaning}
 use Rattle.device.specs.Numbers.{number}
 use Rattle.device.specs.Promises.{Down, GainsAt, WriteDone, SyncDone}
 use Rattle.device.specs.Calls.{Answer}
-use Rattle.journal.specs.declared.entries.Entry.{Entry}
+use Rattle.journal.specs.Entries.{Entry}
 use Rattle.journal.specs.declared.places.Area.{Area}
 use Rattle.journal.specs.Waiting.{blank}
 use Rattle.journal.specs.Sending.{page_of}
 
 -- where entry j goes: body j, or its home page
 abbrev pub spot : Area → List Entry → ℕ → ℕ
-spot area es j = page_of area j (slice_index_or es j blank)
+spot area es j = page_of area j (slice_index_or es j blank).page
 
 -- what the writes need
 pub record Ready (area : Area) (es : List Entry) (m : Meaning) : Type 0 where

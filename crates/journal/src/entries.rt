@@ -1,21 +1,27 @@
 // The written pages that wait in memory, at most 64.
-ghost use Rattle.std.specs.Prelude.{◌≡◌, ◌+◌, ◌<◌, ◌≤◌, [], ◌∷◌, ◌++◌, length, ◌==◌, option_map};
-ghost use Rattle.journal.specs.Waiting.{waiting, place, look_up, Put};
+ghost use Rattle.std.specs.Prelude.{◌≡◌, ◌+◌, ◌<◌, ◌≤◌, [], ◌∷◌, ◌++◌, length, ◌==◌, option_map, slice_index_or};
+ghost use Rattle.std.specs.List.{position};
+ghost use Rattle.journal.specs.Waiting.{waiting, blank, pages, place, look_up, Put};
 
 use arrayvec::ArrayVec;
 use device::{DeviceFault, PAGE_SIZE, Page};
 
-/// A page's number above, and its bytes.
-#[derive(Clone, Copy, Default)]
-pub struct Entry {
-    pub page: u16,
-    pub bytes: Page,
-}
+/// How many pages may wait.
+const ROOM: usize = 64;
 
-/// At most 64 entries.
+/// The numbers above of the pages that wait, and at the same places their bytes.
+// The bytes are no part of the vector: it blanks each place that it gives up, which is cheap for a number, and not for a page.
 #[derive(Drop)]
 pub struct Pending {
-    pub entries: ArrayVec<Entry, 64>,
+    pub pages: ArrayVec<u16, ROOM>,
+    pub bytes: [Page; ROOM],
+}
+
+// The first place of a page among some.
+fn first_place(pages: &[u16], page: usize) -> Option<usize>
+    ensures { result ≡ position (λ p. p == page) pages.now }
+{
+    pages.iter().position(|p| usize::from(*p) == page)
 }
 
 impl Pending {
@@ -23,46 +29,53 @@ impl Pending {
         ensures { waiting result ≡ [] }
     {
         Pending {
-            entries: ArrayVec::new(),
+            pages: ArrayVec::new(),
+            bytes: [[0; PAGE_SIZE]; ROOM],
         }
     }
 
     pub(crate) fn clear(&mut self)
         ensures { waiting self.new ≡ [] }
     {
-        self.entries.clear();
+        self.pages.clear();
     }
 
     // Whether none waits.
     pub(crate) fn is_empty(&self) -> bool
         ensures { result ≡ (length (waiting self.now) == 0) }
     {
-        self.entries.is_empty()
+        self.pages.is_empty()
     }
 
-    // The entries that wait.
-    pub(crate) fn as_slice(&self) -> &[Entry]
-        ensures items { result.now ≡ waiting self.now }
+    // The pages that wait.
+    pub(crate) fn pages(&self) -> &[u16]
+        ensures items { result.now ≡ pages (waiting self.now) }
         ensures few { length result.now ≤ 64 }
     {
-        self.entries.as_slice()
+        self.pages.as_slice()
+    }
+
+    // The bytes at a place.
+    pub(crate) fn bytes_at(&self, at: usize) -> &Page
+        requires { at < length (waiting self.now) }
+        ensures { result.now ≡ (slice_index_or (waiting self.now) at blank).bytes }
+    {
+        &self.bytes[at]
     }
 
     // The bytes of a page that waits.
     pub(crate) fn get(&self, page: usize) -> Option<&Page>
         ensures { option_map (λ b. b.now) result ≡ look_up (waiting self.now) page }
     {
-        self.entries
-            .iter()
-            .find(|e| usize::from(e.page) == page)
-            .map(|e| &e.bytes)
+        let at = self.place_of(page)?;
+        Some(self.bytes_at(at))
     }
 
     // The place of a page that waits.
-    fn place_of(&self, page: u16) -> Option<usize>
+    fn place_of(&self, page: usize) -> Option<usize>
         ensures { result ≡ place (waiting self.now) page }
     {
-        self.entries.iter().position(|e| e.page == page)
+        first_place(&self.pages, page)
     }
 
     // Keeps the page in its old place or behind the others, unless 64 others wait.
@@ -70,27 +83,26 @@ impl Pending {
         requires { length buf.now ≡ 252 }
         ensures { Put (waiting self.old) page buf.now result (waiting self.new) }
     {
-        let mut bytes = [0; PAGE_SIZE];
-        bytes.copy_from_slice(buf);
-        let entry = Entry { page, bytes };
-        match self.place_of(page) {
+        match self.place_of(usize::from(page)) {
             Some(at) => {
-                self.entries[at] = entry;
+                self.bytes[at].copy_from_slice(buf);
                 Ok(())
             }
-            None if self.entries.is_full() => Err(DeviceFault::TooManyWaiting),
+            None if self.pages.is_full() => Err(DeviceFault::TooManyWaiting),
             None => {
-                self.entries.push(entry);
+                self.push(page, buf);
                 Ok(())
             }
         }
     }
 
-    // Adds an entry behind the others.
-    pub(crate) fn push(&mut self, entry: Entry)
-        requires { length (waiting self.old) < 64 }
-        ensures { waiting self.new ≡ waiting self.old ++ entry ∷ [] }
+    // Adds a page behind the others.
+    pub(crate) fn push(&mut self, page: u16, buf: &[u8])
+        requires room { length (waiting self.old) < 64 }
+        requires size { length buf.now ≡ 252 }
+        ensures { waiting self.new ≡ waiting self.old ++ record { page = page; bytes = buf.now } ∷ [] }
     {
-        self.entries.push(entry);
+        self.bytes[self.pages.len()].copy_from_slice(buf);
+        self.pages.push(page);
     }
 }

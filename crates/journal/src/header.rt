@@ -49,8 +49,8 @@ pub(crate) fn header_of(entries: &Pending) -> Page
     ensures { result ≡ header (pages (waiting entries.now)) }
 {
     let mut page = empty_page();
-    for e in entries.as_slice() {
-        extend(&mut page, &e.page.to_be_bytes()).unwrap();
+    for target in entries.pages() {
+        extend(&mut page, &target.to_be_bytes()).unwrap();
     }
     page
 }

@@ -3,8 +3,6 @@ ghost use Rattle.std.specs.Prelude.{◌≡◌, ◌+◌, ◌<◌};
 ghost use Rattle.journal.specs.Standing.{above};
 ghost use Rattle.journal.specs.Sending.{page_of};
 
-use crate::entries::Entry;
-
 /// The header's page.
 pub const HEADER: usize = 0;
 
@@ -41,14 +39,14 @@ pub enum Area {
 }
 
 impl Area {
-    // The page of entry j.
-    pub(crate) fn page(self, j: usize, entry: &Entry) -> usize
+    // The page of entry j, of this page above.
+    pub(crate) fn page(self, j: usize, above: u16) -> usize
         requires { j < 64 }
-        ensures { result ≡ page_of self j entry.now }
+        ensures { result ≡ page_of self j above }
     {
         match self {
             Area::Body => body_page(j),
-            Area::Home => home_page(usize::from(entry.page)),
+            Area::Home => home_page(usize::from(above)),
         }
     }
 }

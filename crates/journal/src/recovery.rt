@@ -7,7 +7,7 @@ ghost use Rattle.journal.specs.Over.{reader};
 ghost use Rattle.journal.specs.Order.{Restarting};
 ghost use Rattle.journal.specs.Recovery.{Awake, Looked, Loaded, HeaderRead, Found, Recovered};
 
-use crate::entries::{Entry, Pending};
+use crate::entries::Pending;
 use crate::header::{Targets, parse_header};
 use crate::places::{HEADER, body_page, pages_above};
 use crate::steps::{clear, finish};
@@ -36,7 +36,7 @@ fn load<D: Device>(below: &mut D, named: &Targets, group: &mut Pending) -> Resul
             group.clear();
             return Ok(());
         };
-        group.push(Entry { page: *page, bytes });
+        group.push(*page, &bytes);
     }
     Ok(())
 }

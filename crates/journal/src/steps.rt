@@ -19,8 +19,8 @@ fn write_entries<D: Device>(below: &mut D, entries: &Pending, area: Area) -> Res
     ensures makes { D.Device.agrees below.old → (D.Device.meaning below.old).runs ≡ true → Makes D.Device.meaning (placed area 0 (waiting entries.now)) result below.old below.new }
     ensures wrote { D.Device.agrees below.old → Ready area (waiting entries.now) (D.Device.meaning below.old) → WroteAll area (waiting entries.now) (D.Device.meaning below.old) result (D.Device.meaning below.new) }
 {
-    for (j, e) in entries.as_slice().iter().enumerate() {
-        below.write(area.page(j, e), &e.bytes)?;
+    for (j, page) in entries.pages().iter().enumerate() {
+        below.write(area.page(j, *page), entries.bytes_at(j))?;
     }
     Ok(())
 }

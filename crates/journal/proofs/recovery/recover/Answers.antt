@@ -3,7 +3,7 @@ use Rattle.std.proofs.lemmas.Bool.{ne_eqb}
 use Rattle.device.specs.Meaning.{State, Meaning}
 use Rattle.device.specs.Promises.{Same, RestartDone}
 use Rattle.device.proofs.Whens.{when_false}
-use Rattle.journal.specs.declared.entries.Entry.{Entry}
+use Rattle.journal.specs.Entries.{Entry}
 use Rattle.journal.specs.Waiting.{waiting}
 use Rattle.journal.specs.Header.{targets}
 use Rattle.journal.specs.Standing.{above, home}
