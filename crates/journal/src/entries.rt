@@ -17,7 +17,9 @@ pub struct Pending {
     pub bytes: [Page; ROOM],
 }
 
-// The first place of a page among some.
+// The first place of a page among some. Not inlined, so that the search is a loop of its own: where the copy of a page follows it, its
+// turns carry the addresses of the copy along.
+#[inline(never)]
 fn first_place(pages: &[u16], page: usize) -> Option<usize>
     ensures { result ≡ position (λ p. p == page) pages.now }
 {
@@ -37,7 +39,7 @@ impl Pending {
     pub(crate) fn clear(&mut self)
         ensures { waiting self.new ≡ [] }
     {
-        self.pages.clear();
+        self.pages = ArrayVec::new();
     }
 
     // Whether none waits.
