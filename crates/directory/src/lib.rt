@@ -86,7 +86,7 @@ impl Directory {
 
 // Over entries and a depth as a caller holds them: these answer for every depth, where a `Directory` has at most 8 bits.
 
-/// The entries after the bucket of `hash`, of `bits` bits, was split down to `target` bits: the new depth; none, and no change, where there are not enough free pages.
+/// The entries after the bucket of `hash`, of `bits` bits, was split down to `target` bits: the new depth; none, and no change, where there are not enough free pages or the numbers are out of range.
 pub fn split(
     entries: &mut [u16; 256],
     depth: u8,
@@ -105,7 +105,7 @@ pub fn split(
     Some(after.depth)
 }
 
-/// The entries after all buckets below the first `bits` bits of `hash` were merged into `page`: the new depth.
+/// The entries after all buckets below the first `bits` bits of `hash` were merged into `page`: the new depth; the old one, and no change, where the numbers are out of range.
 pub fn merge(entries: &mut [u16; 256], depth: u8, hash: u32, bits: u8, page: u16) -> u8
     ensures merged { (d : ℕ → ℕ) → Merging depth hash bits page (at entries.old) d → Merged depth result hash bits page (at entries.old) d (at entries.new) }
     ensures unfit { (MergeFits depth bits → ⊥) → (result ≡ depth) × (entries.new ≡ entries.old) }
