@@ -20,8 +20,8 @@ bounds-self-at c =
 pub push-requires-clause-room : goal.push-requires-clause-room
 push-requires-clause-room c =
     let s = c.args.self.now in
-    let few : length s.pages.items ≤ 64 = omega (arith, c.is_full.ensures.fits) in
-    let len = joined_length s.pages.items s.bytes (omega arith) in
+    let few : length s.pages.items ≤ length s.bytes = omega (arith, c.is_full.ensures.fits) in
+    let len = joined_length s.pages.items s.bytes few in
     grind (arith, nat_tests)
 
 pub returns-in-Some : goal.returns-in-Some
@@ -41,8 +41,8 @@ pub returns-in-None : goal.returns-in-None
 returns-in-None c =
     let s = c.args.self.now in
     let none : None ≡ place (waiting s) c.args.page = sym c.in-None.is ∙ c.place_of.ensures ∙ ap (place (waiting s)) c.from.ensures in
-    let few : length s.pages.items ≤ 64 = omega (arith, c.is_full.ensures.fits) in
-    let len = joined_length s.pages.items s.bytes (omega arith) in
+    let few : length s.pages.items ≤ length s.bytes = omega (arith, c.is_full.ensures.fits) in
+    let len = joined_length s.pages.items s.bytes few in
     let full : 64 ≤ length (waiting s) = grind (arith, nat_tests) in
     (refl, put_full (waiting s) c.args.page c.args.buf.now none full)
 
@@ -50,7 +50,7 @@ pub returns-in-None-2 : goal.returns-in-None-2
 returns-in-None-2 c =
     let s = c.args.self.now in
     let none : None ≡ place (waiting s) c.args.page = sym c.in-None.is ∙ c.place_of.ensures ∙ ap (place (waiting s)) c.from.ensures in
-    let few : length s.pages.items ≤ 64 = omega (arith, c.is_full.ensures.fits) in
-    let len = joined_length s.pages.items s.bytes (omega arith) in
+    let few : length s.pages.items ≤ length s.bytes = omega (arith, c.is_full.ensures.fits) in
+    let len = joined_length s.pages.items s.bytes few in
     let room : length (waiting s) < 64 = grind (arith, nat_tests) in
     subst (λ (l : List Entry). PutDone (waiting s) c.args.page c.args.buf.now l) (sym c.push.ensures) (put_new (waiting s) c.args.page c.args.buf.now none room)
