@@ -127,11 +127,15 @@ fn play_single<R: BufRead + Drop, D: Armed + Drop>(
 fn play_group<R: BufRead + Drop, G: Armed + GroupDevice + Drop>(
     rt: &HostRuntime,
     script: &mut Script<R>,
-    mut device: G,
+    device: G,
 ) -> anyhow::Result<Option<Turn>> {
+    let mut pile = Some(device);
+    let Some(device) = &mut pile else {
+        return Ok(None);
+    };
     say(rt, Ok(Answer::Count(device.page_count())))?;
-    match play_on_group(rt, script, &mut device)? {
-        Some(Turn::Store(rule)) => play_stores(rt, script, device, rule),
+    match play_on_group(rt, script, device)? {
+        Some(Turn::Store(rule)) => play_stores(rt, script, &mut pile, rule),
         turn => Ok(turn),
     }
 }
@@ -152,27 +156,30 @@ fn play_on_group<R: BufRead + Drop, G: Armed + GroupDevice>(
 }
 
 // Plays the commands on stores that stand on a pile one after the other, and on the pile between them. The pile moves into a store and back: the
-// places for it are of this function, which is not inlined, so that a pile without a store does not pay for them.
+// places for it are of this function, which is not inlined and takes the pile itself, so that a pile without a store does not pay for them.
 #[inline(never)]
 fn play_stores<R: BufRead + Drop, G: Armed + GroupDevice + Drop>(
     rt: &HostRuntime,
     script: &mut Script<R>,
-    mut device: G,
+    pile: &mut Option<G>,
     mut rule: Rule,
 ) -> anyhow::Result<Option<Turn>> {
     for _ in 0..MAX_LINES {
-        let (below, turn) = match rule {
+        let Some(device) = pile.take() else {
+            break;
+        };
+        let (mut device, turn) = match rule {
             Rule::Integers => play_store::<R, G, IntegerKeys>(rt, script, device)?,
             Rule::Text => play_store::<R, G, TextKeys>(rt, script, device)?,
         };
         let Some(Turn::Close) = turn else {
             return Ok(turn);
         };
-        device = below;
         let turn = play_on_group(rt, script, &mut device)?;
         let Some(Turn::Store(next)) = turn else {
             return Ok(turn);
         };
+        *pile = Some(device);
         rule = next;
     }
     Ok(None)
